@@ -1,0 +1,13 @@
+//! The disk that a store lies on: the trait, a disk in memory, and a disk over a file.
+#![tactic(auto)]
+
+mod disk;
+mod file;
+mod memory;
+#[cfg(test)]
+mod tests;
+
+pub use disk::Disk;
+pub use file::{FILE_DISK_SIZE, FileDisk};
+pub use memory::MemDisk;
+pub use qsr_value::Failed;

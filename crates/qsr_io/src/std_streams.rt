@@ -1,0 +1,85 @@
+ghost use Rattle.std.specs.Prelude.{◌≡◌};
+
+use crate::{Sink, Source};
+use qsr_value::Failed;
+use std::io::{ErrorKind, Read, Write};
+
+/// How often a call that a signal interrupted is made again, before it counts as failed.
+const MAX_RETRIES: u32 = 1 << 20;
+
+/// A source over a reader of std, as standard input. It tells what is left where the reader does.
+#[derive(Drop)]
+pub struct StdSource<R: Read + Drop> {
+    input: R,
+    faults: u64,
+}
+
+impl<R: Read + Drop> StdSource<R> {
+    pub fn new(input: R) -> StdSource<R>
+        ensures left { ⟦<StdSource<R> as Source>⟧.left result ≡ R.remaining input }
+        ensures faults { ⟦<StdSource<R> as Source>⟧.faults_of result ≡ 0 }
+    {
+        StdSource { input, faults: 0 }
+    }
+}
+
+impl<R: Read + Drop> Source for StdSource<R> {
+    ghost left = { λ s. R.remaining s.input };
+
+    ghost faults_of = { λ s. s.faults };
+
+    fn faults(&self) -> u64 {
+        self.faults
+    }
+
+    fn read(&mut self, out: &mut [u8]) -> Result<usize, Failed> {
+        for _ in 0..MAX_RETRIES {
+            match self.input.read(out) {
+                Ok(count) => return Ok(count),
+                Err(error) if error.kind() == ErrorKind::Interrupted => {}
+                Err(_) => break,
+            }
+        }
+        self.faults = self.faults.saturating_add(1);
+        Err(Failed)
+    }
+}
+
+/// A sink over a writer of std, as standard output. It tells what was given where the writer does.
+#[derive(Drop)]
+pub struct StdSink<W: Write + Drop> {
+    output: W,
+    faults: u64,
+}
+
+impl<W: Write + Drop> StdSink<W> {
+    pub fn new(output: W) -> StdSink<W>
+        ensures given { ⟦<StdSink<W> as Sink>⟧.given result ≡ W.contents output }
+        ensures faults { ⟦<StdSink<W> as Sink>⟧.faults_of result ≡ 0 }
+    {
+        StdSink { output, faults: 0 }
+    }
+}
+
+impl<W: Write + Drop> Sink for StdSink<W> {
+    ghost given = { λ s. W.contents s.output };
+
+    ghost faults_of = { λ s. s.faults };
+
+    fn faults(&self) -> u64 {
+        self.faults
+    }
+
+    fn write(&mut self, bytes: &[u8]) -> Result<usize, Failed> {
+        for _ in 0..MAX_RETRIES {
+            match self.output.write(bytes) {
+                Ok(0) => break,
+                Ok(count) => return Ok(count),
+                Err(error) if error.kind() == ErrorKind::Interrupted => {}
+                Err(_) => break,
+            }
+        }
+        self.faults = self.faults.saturating_add(1);
+        Err(Failed)
+    }
+}

@@ -1,0 +1,5 @@
+pub mod BufferLemmas
+pub mod ProgressLemmas
+pub mod RunLemmas
+pub mod LineLemmas
+pub mod NumberLemmas

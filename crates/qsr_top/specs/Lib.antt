@@ -1,0 +1,12 @@
+pub mod Ends
+pub mod Grammar
+pub mod Lines
+pub mod Machine
+pub mod NextLine
+pub mod Number
+pub mod Progress
+pub mod Replies
+pub mod Run
+pub mod Script
+pub mod Usage
+pub mod Words

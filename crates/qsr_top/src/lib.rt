@@ -1,0 +1,18 @@
+//! The top call of qsr: what the program does with its words, its input, its output and its disk.
+#![tactic(auto)]
+
+mod command;
+mod end;
+mod line_buffer;
+mod next_line;
+mod number;
+mod replies;
+mod reply;
+mod script;
+mod script_line;
+#[cfg(test)]
+mod tests;
+mod top;
+
+pub use end::End;
+pub use top::{qsr_run, say_end};

@@ -1,0 +1,20 @@
+-- When a fault of an outside object may be answered: by the object's count of its own faults.
+use Rattle.std.specs.Prelude.{◌≡◌, ℕ, ◌+◌, ◌-◌, ◌^◌, ◌≤◌, min, Result, MatchResult, OnErr}
+
+-- one more, unless the count stands at the last value of u64
+abbrev pub next_count : ℕ → ℕ
+next_count n = min (n + 1) (2 ^ 64 - 1)
+
+-- a count rose, or stood at the last value of u64
+pub record Rose (old new : ℕ) : Type 0 where
+  pub rose : next_count old ≤ new
+  pub no_less : old ≤ new
+
+-- of a call on the object itself: the count stays where the call succeeds, and rises where it fails
+abbrev pub CountsFault : {T E : Type 0} → Result T E → ℕ → ℕ → Type 0
+CountsFault result old new = MatchResult result (λ _. new ≡ old) (λ _. Rose old new)
+
+-- of a function above, whose one error is a fault of the object: it comes only where the count rose
+pub record HasCause {T E : Type 0} (result : Result T E) (old new : ℕ) : Type 0 where
+  pub no_less : old ≤ new
+  pub rose : OnErr result (Rose old new)

@@ -1,0 +1,77 @@
+ghost use Rattle.std.specs.Prelude.{◌≡◌, ◌<◌, [], ◌∷◌, ◌++◌, length, slice_get, IfOk, OnOk, OnErr, Some};
+
+use crate::Memory;
+use sqlite_items::Items;
+use std::alloc::Global;
+use std::marker::Model;
+
+/// A list that grows at its end, which contracts see as the list of its items. The list types of qsr are aliases
+/// of it.
+#[derive(Debug, Drop)]
+pub struct ListOf<T> {
+    items: Items<T>,
+}
+
+/// A list of bytes.
+pub type Bytes = ListOf<u8>;
+
+impl<T> Model for ListOf<T> {
+    ghost use Rattle.std.specs.Prelude.{List};
+    ghost use Rattle.std.specs.Coded.{coded_list};
+
+    ghost Value = { List T };
+
+    ghost coded = { coded_list T.code };
+
+    ghost view = { λ list. list.items };
+}
+
+impl<T> ListOf<T> {
+    /// The empty list, which takes no memory.
+    pub fn new(alloc: Global) -> ListOf<T>
+        ensures { result ≡ [] }
+    {
+        ListOf {
+            items: Items::new(alloc),
+        }
+    }
+
+    pub fn len(&self) -> usize
+        ensures { result ≡ length self.now }
+    {
+        self.items.len()
+    }
+
+    pub fn as_slice(&self) -> &[T]
+        ensures { result.now ≡ self.now }
+    {
+        self.items.as_slice()
+    }
+
+    pub fn get(&self, at: usize) -> &T
+        requires { at < length self.now }
+        ensures { slice_get self.now at ≡ Some result.now }
+    {
+        &self.items.as_slice()[at]
+    }
+}
+
+impl<T: Drop> ListOf<T> {
+    /// Adds an item at the end. A refused push leaves the list as it was.
+    pub fn push(&mut self, item: T) -> Result<(), Memory>
+        ensures ok { OnOk result (self.new ≡ self.old ++ item ∷ []) }
+        ensures err { OnErr result (self.new ≡ self.old) }
+    {
+        self.items.push(item)?;
+        Ok(())
+    }
+}
+
+impl<T: Copy> ListOf<T> {
+    pub fn from_slice(alloc: Global, items: &[T]) -> Result<ListOf<T>, Memory>
+        ensures { IfOk result (λ list. list ≡ items.now) }
+    {
+        let items = Items::from_slice(alloc, items)?;
+        Ok(ListOf { items })
+    }
+}
