@@ -1,1 +1,4 @@
+pub mod Image
 pub mod MemDisk
+pub mod Replay
+pub mod View

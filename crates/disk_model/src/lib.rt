@@ -3,11 +3,13 @@
 
 mod disk;
 mod file;
+mod history;
 mod memory;
 #[cfg(test)]
 mod tests;
 
 pub use disk::Disk;
 pub use file::{FILE_DISK_SIZE, FileDisk};
+pub use history::Pick;
 pub use memory::MemDisk;
 pub use qsr_value::Failed;

@@ -1,10 +1,94 @@
-use crate::{Disk, MemDisk};
+ghost use Rattle.std.specs.Prelude.{◌≡◌};
+
+use crate::{Disk, MemDisk, Pick};
 use std::test::Fail;
 
+/// The bytes of a disk of four bytes behind each call of a run: a write, a sync, a write, a read, and a sync.
+const STOPS: [(u64, Pick, [u8; 4]); 24] = [
+    (0, Pick::Old, [0, 0, 0, 0]),
+    (0, Pick::New, [0, 0, 0, 0]),
+    (0, Pick::Fill(0), [0, 0, 0, 0]),
+    (0, Pick::Fill(0xA5), [0, 0, 0, 0]),
+    (1, Pick::Old, [0, 0, 0, 0]),
+    (1, Pick::New, [1, 2, 0, 0]),
+    (1, Pick::Fill(0), [0, 0, 0, 0]),
+    (1, Pick::Fill(0xA5), [0xA5, 0xA5, 0, 0]),
+    (2, Pick::Old, [1, 2, 0, 0]),
+    (2, Pick::New, [1, 2, 0, 0]),
+    (2, Pick::Fill(0), [1, 2, 0, 0]),
+    (2, Pick::Fill(0xA5), [1, 2, 0, 0]),
+    (3, Pick::Old, [1, 2, 0, 0]),
+    (3, Pick::New, [1, 3, 4, 0]),
+    (3, Pick::Fill(0), [1, 0, 0, 0]),
+    (3, Pick::Fill(0xA5), [1, 0xA5, 0xA5, 0]),
+    (4, Pick::Old, [1, 2, 0, 0]),
+    (4, Pick::New, [1, 3, 4, 0]),
+    (4, Pick::Fill(0), [1, 0, 0, 0]),
+    (4, Pick::Fill(0xA5), [1, 0xA5, 0xA5, 0]),
+    (5, Pick::Old, [1, 3, 4, 0]),
+    (5, Pick::New, [1, 3, 4, 0]),
+    (5, Pick::Fill(0), [1, 3, 4, 0]),
+    (5, Pick::Fill(0xA5), [1, 3, 4, 0]),
+];
+
+/// A write, a sync, a write, a read, and a sync, each made whether or not those before it failed. It answers how
+/// many failed.
+fn five_calls<D: Disk>(disk: &mut D) -> u64
+    requires { D.size_of disk.old ≡ 4 }
+{
+    let mut out = [0; 2];
+    let mut failed = 0;
+    failed += disk.write(0, &[1, 2]).is_err() as u64;
+    failed += disk.sync().is_err() as u64;
+    failed += disk.write(1, &[3, 4]).is_err() as u64;
+    failed += disk.read(1, &mut out).is_err() as u64;
+    failed += disk.sync().is_err() as u64;
+    failed
+}
+
 #[test]
-fn a_disk_in_memory_has_its_size(rt: HostRuntime) -> Result<(), Fail> {
-    let disk = MemDisk::new(rt.alloc(), 4096, 3)?;
-    assert_eq!(rt; disk.size(), 4096);
-    assert_eq!(rt; (disk.reads(), disk.writes(), disk.faults()), (0, 0, 0));
+fn a_stop_behind_each_call(rt: HostRuntime) -> Result<(), Fail> {
+    let mut disk = MemDisk::new(rt.alloc(), 4, 4)?;
+    assert_eq!(rt; five_calls(&mut disk), 0);
+    for (calls, pick, bytes) in STOPS {
+        let image = disk.image(rt.alloc(), calls, pick)?;
+        assert_eq!(rt; image.bytes(), bytes.as_slice());
+    }
+    Ok(())
+}
+
+#[test]
+fn each_call_fails_once(rt: HostRuntime) -> Result<(), Fail> {
+    for number in 0..5 {
+        let mut disk = MemDisk::failing(rt.alloc(), 4, 4, &[number])?;
+        assert_eq!(rt; five_calls(&mut disk), 1);
+        assert_eq!(rt; disk.faults(), 1);
+        assert_eq!(rt; disk.bytes(), [1, 3, 4, 0].as_slice());
+        let image = disk.image(rt.alloc(), 5, Pick::Old)?;
+        let old = if number == 4 {
+            [1, 2, 0, 0]
+        } else {
+            [1, 3, 4, 0]
+        };
+        assert_eq!(rt; image.bytes(), old.as_slice());
+        let image = disk.image(rt.alloc(), 4, Pick::Old)?;
+        let old = if number == 1 {
+            [0, 0, 0, 0]
+        } else {
+            [1, 2, 0, 0]
+        };
+        assert_eq!(rt; image.bytes(), old.as_slice());
+        let image = disk.image(rt.alloc(), 4, Pick::New)?;
+        assert_eq!(rt; image.bytes(), [1, 3, 4, 0].as_slice());
+    }
+    Ok(())
+}
+
+#[test]
+fn beyond_its_room_it_changes_nothing(rt: HostRuntime) -> Result<(), Fail> {
+    let mut disk = MemDisk::new(rt.alloc(), 4, 2)?;
+    assert_eq!(rt; five_calls(&mut disk), 2);
+    assert_eq!(rt; disk.bytes(), [1, 2, 0, 0].as_slice());
+    assert_eq!(rt; (disk.reads(), disk.writes(), disk.faults()), (1, 2, 2));
     Ok(())
 }

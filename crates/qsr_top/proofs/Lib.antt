@@ -1,5 +1,7 @@
 pub mod BufferLemmas
-pub mod ProgressLemmas
-pub mod RunLemmas
+pub mod CrashLemmas
 pub mod LineLemmas
 pub mod NumberLemmas
+pub mod ProgressLemmas
+pub mod RowLemmas
+pub mod RunLemmas

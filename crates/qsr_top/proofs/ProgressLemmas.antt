@@ -1,5 +1,5 @@
--- How a run of a script goes on from line to line, and what it has written where it ends.
-use Rattle.std.proofs.Common.{◌≡◌, ◌≢◌, ℕ, ◌+◌, ◌==◌, ℤ, Bool, true, false, List, [], ◌∷◌, ◌++◌, length, take, None, Some, ap, refl, sym, ◌∙◌, arith, append_assoc, append-nil, length-append, cond}
+-- How a run of a script goes on from line to line: the input, the machine and the replies.
+use Rattle.std.proofs.Common.{◌≡◌, ◌≢◌, ℕ, ◌+◌, ◌==◌, Bool, true, false, List, [], ◌∷◌, ◌++◌, length, take, Option, None, Some, ap, refl, sym, ◌∙◌, arith, append_assoc, append-nil, length-append, cond}
 use Rattle.std.proofs.Math.Seq.{take-append_seam}
 use Rattle.std.proofs.lemmas.List.Sums.{sum_by-cons}
 use Rattle.std.proofs.lemmas.List.Elements.{recursion_from_All}
@@ -7,37 +7,38 @@ use Rattle.std.proofs.lemmas.Bool.Decides.{nat_tests}
 use Rattle.std.specs.Option.{option_map_or}
 use Rattle.std.specs.Prelude.{All, count_by}
 use Rattle.std.specs.List.{AllByRecursion}
-use Rattle.qsr_top.specs.declared.script_line.ScriptLine.{ScriptLine}
 use Rattle.qsr_top.specs.declared.reply.Reply.{Reply}
-use Rattle.qsr_top.specs.declared.reply.Reply.TheVariants.{BadLine as BadLineReply}
-use Rattle.qsr_top.specs.declared.end.End.TheVariants.{SourceFault, NoMemory}
-use Rattle.qsr_top.specs.Ends.{end_text}
+use Rattle.qsr_top.specs.declared.script_line.ScriptLine.{ScriptLine}
+use Rattle.qsr_top.specs.declared.table.Table.{Table}
 use Rattle.qsr_top.specs.Lines.{InputLine, whole, longer, lines_of}
-use Rattle.qsr_top.specs.Machine.{serve, replies_to, rows_after}
-use Rattle.qsr_top.specs.Progress.{Progress}
+use Rattle.qsr_top.specs.Machine.{serve, empty_table, replies_to, table_after}
+use Rattle.qsr_top.specs.Progress.{IsAt}
 use Rattle.qsr_top.specs.Replies.{text_of, texts}
-use Rattle.qsr_top.specs.Run.{AnswersFirst, ends_in, IsFinished, IsCutByLine, IsCutByMemory, IsCutBySource}
+use Rattle.qsr_top.specs.Run.{ends_in, replies_text}
 use Rattle.qsr_top.specs.Script.{said, script_from, script_of}
 
--- a run begins
-pub Progress-start : (size : ℕ) (bytes : List ℕ) → Progress size bytes bytes 0 [] []
-Progress-start size bytes = record { done = []; count = refl; script = refl; lines = omega arith; ends = omega arith; table = refl; replies = refl }
-
 -- the machine over one more line
-rows_after-more : (size : ℕ) (rows : List ℤ) (done : List ScriptLine) (line : ScriptLine)
-    → rows_after size rows (done ++ line ∷ []) ≡ (serve size (rows_after size rows done) line).rows
-rows_after-more size rows [] line = refl
-rows_after-more size rows (first ∷ done) line = rows_after-more size (serve size rows first).rows done line
+pub table_after-more : (size : ℕ) (table : Table) (done : List ScriptLine) (line : ScriptLine)
+    → table_after size table (done ++ line ∷ []) ≡ (serve size (table_after size table done) line).table
+table_after-more size table [] line = refl
+table_after-more size table (first ∷ done) line = table_after-more size (serve size table first).table done line
 
-replies_to-more : (size : ℕ) (rows : List ℤ) (done : List ScriptLine) (line : ScriptLine)
-    → replies_to size rows (done ++ line ∷ []) ≡ replies_to size rows done ++ (serve size (rows_after size rows done) line).reply ∷ []
-replies_to-more size rows [] line = refl
-replies_to-more size rows (first ∷ done) line =
-    ap (λ replies. (serve size rows first).reply ∷ replies) (replies_to-more size (serve size rows first).rows done line)
+replies_to-more : (size : ℕ) (table : Table) (done : List ScriptLine) (line : ScriptLine)
+    → replies_to size table (done ++ line ∷ []) ≡ replies_to size table done ++ (serve size (table_after size table done) line).reply ∷ []
+replies_to-more size table [] line = refl
+replies_to-more size table (first ∷ done) line =
+    ap (λ replies. (serve size table first).reply ∷ replies) (replies_to-more size (serve size table first).table done line)
 
 texts-more : (replies : List Reply) (reply : Reply) → texts (replies ++ reply ∷ []) ≡ texts replies ++ text_of reply
 texts-more [] reply = append-nil (text_of reply)
-texts-more (first ∷ replies) reply = ap (λ text. text_of first ++ text) (texts-more replies reply) ∙ sym (append_assoc (text_of first) (texts replies) (text_of reply))
+texts-more (first ∷ replies) reply =
+    ap (λ text. text_of first ++ text) (texts-more replies reply) ∙ sym (append_assoc (text_of first) (texts replies) (text_of reply))
+
+pub replies_text-more : (size : ℕ) (done : List ScriptLine) (line : ScriptLine)
+    → replies_text size (done ++ line ∷ []) ≡ replies_text size done ++ text_of (serve size (table_after size empty_table done) line).reply
+replies_text-more size done line =
+    ap texts (replies_to-more size empty_table done line)
+    ∙ texts-more (replies_to size empty_table done) (serve size (table_after size empty_table done) line).reply
 
 -- the LFs of an input are the ends of its lines
 abbrev count_ended : List InputLine → ℕ
@@ -69,91 +70,45 @@ ends_in-line : (unread rest text : List ℕ) → lines_of unread ≡ whole text 
 ends_in-line unread rest text first =
     ends_in-lines unread ∙ ap count_ended first ∙ count_ended-cons (whole text) (lines_of rest) ∙ ap (λ n. 1 + n) (sym (ends_in-lines rest))
 
+-- bytes with no LF end no line
+ends_by : (held left : List ℕ) → AllByRecursion (λ byte. byte ≢ 10) held → ends_in (held ++ left) ≡ ends_in left
+ends_by [] left all = refl
+ends_by (byte ∷ held) left all =
+    let no : (byte == 10) ≡ false = grind (arith, nat_tests) in
+    ends_in-cons byte (held ++ left) ∙ rw no (let more = ends_by held left all.1 in omega (arith, more))
+
+pub ends_in-partial : (held left : List ℕ) → All (λ byte. byte ≢ 10) held → ends_in (held ++ left) ≡ ends_in left
+ends_in-partial held left all = ends_by held left (recursion_from_All _ held all)
+
+-- the script behind a line that is good, and that is bad
+script_from-line : (number : ℕ) (unread : List ℕ) (line : InputLine) (rest : List InputLine) (says : Option ScriptLine)
+    → lines_of unread ≡ line ∷ rest → said number line ≡ says
+    → script_from number (lines_of unread) ≡ option_map_or (λ script_line. script_line ∷ script_from (number + 1) rest) says []
+script_from-line number unread line rest says first is =
+    ap (script_from number) first ∙ ap (λ said_line. option_map_or (λ script_line. script_line ∷ script_from (number + 1) rest) said_line []) is
+
 -- the next line is served
-pub Progress-line : (size : ℕ) (bytes unread rest : List ℕ) (served : ℕ) (rows : List ℤ) (text line_text : List ℕ) (line : ScriptLine)
-    → Progress size bytes unread served rows text
-    → lines_of unread ≡ whole line_text ∷ lines_of rest
-    → said (served + 1) (whole line_text) ≡ Some line
-    → Progress size bytes rest (served + 1) (serve size rows line).rows (text ++ text_of (serve size rows line).reply)
-Progress-line size bytes unread rest served rows text line_text line at first says =
-    let done = at.done in
-    let next : script_from (served + 1) (lines_of unread) ≡ line ∷ script_from (served + 1 + 1) (lines_of rest) =
-    ap (script_from (served + 1)) first ∙ ap (λ said_line. option_map_or (λ script_line. script_line ∷ script_from (served + 1 + 1) (lines_of rest)) said_line []) says in
+pub IsAt-line : (bytes unread rest line_text : List ℕ) (done : List ScriptLine) (line : ScriptLine)
+    → IsAt bytes unread done → lines_of unread ≡ whole line_text ∷ lines_of rest → said (length done + 1) (whole line_text) ≡ Some line
+    → IsAt bytes rest (done ++ line ∷ [])
+IsAt-line bytes unread rest line_text done line at first says =
+    let long : length (done ++ line ∷ []) ≡ length done + 1 = length-append done (line ∷ []) in
+    let next = script_from-line (length done + 1) unread (whole line_text) (lines_of rest) (Some line) first says in
     let count_lines = ap length first in
     record {
-      done = done ++ line ∷ [];
-      count = length-append done (line ∷ []) ∙ ap (λ n. n + 1) at.count;
-      script = append_assoc done (line ∷ []) (script_from (served + 1 + 1) (lines_of rest)) ∙ ap (λ more. done ++ more) (sym next) ∙ at.script;
-      lines = let before = at.lines in omega (arith, before, count_lines);
-      ends = let before = at.ends in omega (arith, before, ends_in-line unread rest line_text first);
-      table = ap (λ (table : List ℤ). (serve size table line).rows) at.table ∙ sym (rows_after-more size [] done line);
-      replies = ap (λ front. front ++ text_of (serve size rows line).reply) at.replies
-          ∙ ap (λ (table : List ℤ). texts (replies_to size [] done) ++ text_of (serve size table line).reply) at.table
-          ∙ sym (texts-more (replies_to size [] done) (serve size (rows_after size [] done) line).reply)
-          ∙ sym (ap texts (replies_to-more size [] done line));
+      script = rw long (append_assoc done (line ∷ []) (script_from (length done + 1 + 1) (lines_of rest)) ∙ ap (λ more. done ++ more) (sym next) ∙ at.script);
+      lines = let before = at.lines in omega (arith, before, count_lines, long);
+      ends = let before = at.ends in omega (arith, before, ends_in-line unread rest line_text first, long);
     }
 
--- the input is at its end
-pub IsFinished-end : (size : ℕ) (bytes : List ℕ) (served : ℕ) (rows : List ℤ) (text : List ℕ) → Progress size bytes [] served rows text → IsFinished size bytes [] text
-IsFinished-end size bytes served rows text at =
-    let all : at.done ≡ script_of bytes = sym (append-nil at.done) ∙ at.script in
-    let long = ap length all in
-    record {
-      good = let before = at.lines in let count = at.count in omega (arith, before, count, long);
-      read = refl;
-      replies = at.replies ∙ ap (λ script. texts (replies_to size [] script)) all;
-    }
+-- what was served are the first lines of the script
+pub front_of_script : (bytes unread : List ℕ) (done : List ScriptLine) → IsAt bytes unread done → take (length done) (script_of bytes) ≡ done
+front_of_script bytes unread done at =
+    ap (take (length done)) (sym at.script) ∙ take-append_seam done (script_from (length done + 1) (lines_of unread))
 
--- the next line is bad
-pub IsCutByLine-bad : (size : ℕ) (bytes unread : List ℕ) (served : ℕ) (rows : List ℤ) (text : List ℕ) (line : InputLine) (rest : List InputLine)
-    → Progress size bytes unread served rows text → lines_of unread ≡ line ∷ rest → said (served + 1) line ≡ None
-    → IsCutByLine size bytes (text ++ text_of (BadLineReply (served + 1)))
-IsCutByLine-bad size bytes unread served rows text line rest at first says =
-    let none : script_from (served + 1) (lines_of unread) ≡ [] =
-    ap (script_from (served + 1)) first ∙ ap (λ said_line. option_map_or (λ script_line. script_line ∷ script_from (served + 1 + 1) rest) said_line []) says in
-    let all : at.done ≡ script_of bytes = sym (append-nil at.done) ∙ ap (λ more. at.done ++ more) (sym none) ∙ at.script in
-    let long = ap length all in
-    let more = ap length first in
-    record {
-      bad = let before = at.lines in let count = at.count in omega (arith, before, count, long, more);
-      replies = ap (λ front. front ++ text_of (BadLineReply (served + 1))) (at.replies ∙ ap (λ script. texts (replies_to size [] script)) all)
-          ∙ ap (λ number. texts (replies_to size [] (script_of bytes)) ++ text_of (BadLineReply (number + 1))) (sym at.count ∙ long);
-    }
-
--- the lines that were served are the first ones
-pub AnswersFirst-served : (size : ℕ) (bytes unread : List ℕ) (served : ℕ) (rows : List ℤ) (text : List ℕ) → Progress size bytes unread served rows text → AnswersFirst size bytes served text
-AnswersFirst-served size bytes unread served rows text at =
-    let rest = script_from (served + 1) (lines_of unread) in
-    let long = ap length at.script in
-    let front : take served (script_of bytes) ≡ at.done =
-    ap (λ n. take n (script_of bytes)) (sym at.count) ∙ ap (take (length at.done)) (sym at.script) ∙ take-append_seam at.done rest in
-    record {
-      good = let count = at.count in omega (arith, count, long, length-append at.done rest);
-      replies = at.replies ∙ ap (λ script. texts (replies_to size [] script)) (sym front);
-    }
-
--- bytes with no LF end no line
-ends_in-partial : (held left : List ℕ) → AllByRecursion (λ byte. byte ≢ 10) held → ends_in (held ++ left) ≡ ends_in left
-ends_in-partial [] left all = refl
-ends_in-partial (byte ∷ held) left all =
-    let no : (byte == 10) ≡ false = grind (arith, nat_tests) in
-    ends_in-cons byte (held ++ left) ∙ rw no (let more = ends_in-partial held left all.1 in omega (arith, more))
-
-pub IsCutBySource-partial : (size : ℕ) (bytes held left : List ℕ) (served : ℕ) (rows : List ℤ) (text : List ℕ)
-    → Progress size bytes (held ++ left) served rows text → All (λ byte. byte ≢ 10) held → IsCutBySource size bytes left (text ++ end_text SourceFault)
-IsCutBySource-partial size bytes held left served rows text at partial = record {
-  lines = served;
-  answers = text;
-  first = AnswersFirst-served size bytes (held ++ left) served rows text at;
-  all_read = let before = at.ends in let same = ends_in-partial held left (recursion_from_All _ held partial) in omega (arith, before, same);
-  written = refl;
-}
-
-pub IsCutByMemory-served : (size : ℕ) (bytes unread : List ℕ) (served : ℕ) (rows : List ℤ) (text : List ℕ)
-    → Progress size bytes unread served rows text → IsCutByMemory size bytes (text ++ end_text NoMemory)
-IsCutByMemory-served size bytes unread served rows text at = record {
-  lines = served;
-  answers = text;
-  first = AnswersFirst-served size bytes unread served rows text at;
-  written = refl;
-}
+-- the next line is bad: what was served is the whole script
+pub script_of-bad : (bytes unread : List ℕ) (done : List ScriptLine) (line : InputLine) (rest : List InputLine)
+    → IsAt bytes unread done → lines_of unread ≡ line ∷ rest → said (length done + 1) line ≡ None → done ≡ script_of bytes
+script_of-bad bytes unread done line rest at first says =
+    let none = script_from-line (length done + 1) unread line rest None first says in
+    sym (append-nil done) ∙ ap (λ more. done ++ more) (sym none) ∙ at.script

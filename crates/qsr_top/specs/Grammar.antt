@@ -3,13 +3,22 @@ use Rattle.std.specs.Prelude.{ℕ, ◌-◌, List, length, take, drop, Option, No
 use Rattle.std.specs.List.{starts_with, ends_with}
 use Rattle.std.specs.Option.{option_map}
 use Rattle.qsr_top.specs.declared.script_line.ScriptLine.{ScriptLine}
-use Rattle.qsr_top.specs.declared.script_line.ScriptLine.TheVariants.{Row}
-use Rattle.qsr_top.specs.Number.{number_of}
+use Rattle.qsr_top.specs.declared.script_line.ScriptLine.TheVariants.{Row, Turn}
+use Rattle.qsr_top.specs.Number.{count_of, number_of}
 
 -- a line without the one carriage return that may stand at its end
 abbrev pub without_cr : List ℕ → List ℕ
 without_cr text = if ends_with nat_eq text (codes "\r") then take (length text - 1) text else text
 
 -- `row V`
+abbrev pub row_of : List ℕ → Option ScriptLine
+row_of text = option_map Row (number_of text)
+
+-- `turn N`
+abbrev pub turn_of : List ℕ → Option ScriptLine
+turn_of text = option_map Turn (count_of text)
+
 abbrev pub line_of : List ℕ → Option ScriptLine
-line_of text = if starts_with nat_eq text (codes "row ") then option_map Row (number_of (drop 4 text)) else None
+line_of text =
+    if starts_with nat_eq text (codes "row ") then row_of (drop 4 text)
+    else (if starts_with nat_eq text (codes "turn ") then turn_of (drop 5 text) else None)

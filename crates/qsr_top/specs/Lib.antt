@@ -6,6 +6,7 @@ pub mod NextLine
 pub mod Number
 pub mod Progress
 pub mod Replies
+pub mod Rows
 pub mod Run
 pub mod Script
 pub mod Usage

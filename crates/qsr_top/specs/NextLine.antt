@@ -1,5 +1,5 @@
 -- What the bytes that are held tell of the next line.
-use Rattle.std.specs.Prelude.{⊤, ◌≡◌, ◌≢◌, ℕ, ◌+◌, ◌<◌, ◌≤◌, List, [], ◌∷◌, length, take, drop, All}
+use Rattle.std.specs.Prelude.{⊤, ◌≡◌, ◌≢◌, ℕ, ◌+◌, ◌<◌, ◌≤◌, List, [], ◌∷◌, ◌++◌, length, take, drop, All, Option, None, Some}
 use Rattle.qsr_top.specs.declared.line_buffer.TheConstants.{MAX_LINE}
 use Rattle.qsr_top.specs.declared.next_line.NextLine.{NextLine}
 use Rattle.qsr_top.specs.declared.next_line.NextLine.TheVariants.{Whole, TooLong, Unended, End}
@@ -36,3 +36,12 @@ IsHeld (Whole len) held = (len < length held) × (len ≤ MAX_LINE)
 IsHeld TooLong held = ⊤
 IsHeld Unended held = ⊤
 IsHeld End held = ⊤
+
+-- the same, where the source tells the bytes that it has left
+abbrev pub BeginsWholeTold : ℕ → List ℕ → Option (List ℕ) → Type 0
+BeginsWholeTold len held None = ⊤
+BeginsWholeTold len held (Some left) = BeginsWhole len held (held ++ left)
+
+abbrev pub IsNextTold : NextLine → List ℕ → Option (List ℕ) → Type 0
+IsNextTold next held None = ⊤
+IsNextTold next held (Some left) = IsNext next held (held ++ left)

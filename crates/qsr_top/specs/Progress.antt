@@ -1,26 +1,31 @@
 -- Where a run of a script stands between two lines.
-use Rattle.std.specs.Prelude.{◌≡◌, ◌⊎◌, ℕ, ◌+◌, ℤ, List, [], ◌++◌, length, Option, None, Some}
+use Rattle.std.specs.Prelude.{⊤, ◌≡◌, ◌⊎◌, ℕ, ◌+◌, List, [], ◌∷◌, ◌++◌, length, Option, None, Some}
 use Rattle.std.specs.Io.KnownBytes.{Appends}
+use Rattle.qsr_value.specs.Causes.{count_behind}
+use Rattle.disk_model.specs.Image.{Image}
+use Rattle.disk_model.specs.View.{View, EachImage, LeavesOnly}
 use Rattle.qsr_top.specs.declared.end.End.{End}
 use Rattle.qsr_top.specs.declared.end.End.TheVariants.{SinkFault}
 use Rattle.qsr_top.specs.declared.script_line.ScriptLine.{ScriptLine}
+use Rattle.qsr_top.specs.declared.table.Table.{Table}
 use Rattle.qsr_top.specs.Ends.{end_text}
 use Rattle.qsr_top.specs.Lines.{lines_of}
-use Rattle.qsr_top.specs.Machine.{replies_to, rows_after}
-use Rattle.qsr_top.specs.Replies.{texts}
-use Rattle.qsr_top.specs.Run.{ends_in, IsCutBySink, WritesWhole}
+use Rattle.qsr_top.specs.Machine.{empty_table, table_after}
+use Rattle.qsr_top.specs.Rows.{HasSome, HasTable}
+use Rattle.qsr_top.specs.Run.{ends_in, replies_text, whole_text, HasWritten, IsCutOff, Reads, Writes}
 use Rattle.qsr_top.specs.Script.{script_from, script_of}
 
--- So many lines of the input were served, of which these bytes are unread: the rows are those behind the lines, and
--- the text is that of the replies.
-pub record Progress (size : ℕ) (bytes unread : List ℕ) (served : ℕ) (rows : List ℤ) (text : List ℕ) : Type 0 where
-  pub done : List ScriptLine
-  pub count : length done ≡ served
-  pub script : done ++ script_from (served + 1) (lines_of unread) ≡ script_of bytes
-  pub lines : served + length (lines_of unread) ≡ length (lines_of bytes)
-  pub ends : served + ends_in unread ≡ ends_in bytes
-  pub table : rows ≡ rows_after size [] done
-  pub replies : text ≡ texts (replies_to size [] done)
+-- These lines were served of the input, and these bytes are unread.
+pub record IsAt (bytes unread : List ℕ) (done : List ScriptLine) : Type 0 where
+  pub script : done ++ script_from (length done + 1) (lines_of unread) ≡ script_of bytes
+  pub lines : length done + length (lines_of unread) ≡ length (lines_of bytes)
+  pub ends : length done + ends_in unread ≡ ends_in bytes
+
+-- the same, where the source tells its bytes
+abbrev pub IsAtTold : Option (List ℕ) → Option (List ℕ) → List ScriptLine → Type 0
+IsAtTold None unread done = ⊤
+IsAtTold (Some bytes) None done = ⊥
+IsAtTold (Some bytes) (Some unread) done = IsAt bytes unread done
 
 -- The sink was given all of the text but for what is still held.
 pub record Sent (old now : Option (List ℕ)) (held text : List ℕ) : Type 0 where
@@ -28,37 +33,69 @@ pub record Sent (old now : Option (List ℕ)) (held text : List ℕ) : Type 0 wh
   pub given : Appends old now told
   pub whole : told ++ held ≡ text
 
--- a run stands between two lines, by what is unread where the source tells it
-abbrev pub Stands : ℕ → List ℕ → Option (List ℕ) → ℕ → List ℤ → Option (List ℕ) → Option (List ℕ) → List ℕ → Type 0
-Stands size bytes None served rows old now held = ⊥
-Stands size bytes (Some unread) served rows old now held = (text : List ℕ) × Progress size bytes unread served rows text × Sent old now held text
+-- A run stands behind these lines: by what its source had and what is unread, by what its sink had and has, by the
+-- replies that are held, by the count of the lines and by the table.
+pub record Stands (size : ℕ) (left unread given now : Option (List ℕ)) (held : List ℕ) (served : ℕ) (table : Table) (done : List ScriptLine) : Type 0 where
+  pub count : length done ≡ served
+  pub built : table ≡ table_after size empty_table done
+  pub input : IsAtTold left unread done
+  pub sent : Sent given now held (replies_text size done)
 
 -- The text of a run that has ended so, but for what is said of the end, was sent or is held.
-pub record IsSaid (size : ℕ) (bytes left : List ℕ) (end : End) (old now : Option (List ℕ)) (held : List ℕ) : Type 0 where
+pub record IsSaid (size : ℕ) (end : End) (given now : Option (List ℕ)) (held : List ℕ) (done : List ScriptLine) : Type 0 where
   pub text : List ℕ
-  pub sent : Sent old now held text
-  pub writes : WritesWhole size bytes left end (text ++ end_text end)
+  pub sent : Sent given now held text
+  pub whole : text ++ end_text end ≡ whole_text size done end
 
 -- The sink has cut off the text of a run.
-pub record IsCut (size : ℕ) (bytes : List ℕ) (end : End) (old now : Option (List ℕ)) : Type 0 where
+pub record IsCut (size : ℕ) (end : End) (given now : Option (List ℕ)) (done : List ScriptLine) : Type 0 where
   pub is : end ≡ SinkFault
   pub front : List ℕ
-  pub given : Appends old now front
-  pub cut : IsCutBySink size bytes front
+  pub gives : Appends given now front
+  pub cut : IsCutOff size done front
 
--- a run has ended so, and what is said of the end is not written yet
-abbrev pub Closes : ℕ → List ℕ → Option (List ℕ) → End → Option (List ℕ) → Option (List ℕ) → List ℕ → Type 0
-Closes size bytes None end old now held = ⊥
-Closes size bytes (Some left) end old now held = IsSaid size bytes left end old now held ⊎ IsCut size bytes end old now
+-- A run has ended so behind these lines, and what is said of the end is not written yet.
+pub record Closes (size : ℕ) (left unread : Option (List ℕ)) (end : End) (given now : Option (List ℕ)) (held : List ℕ) (done : List ScriptLine) : Type 0 where
+  pub reads : Reads left unread done end
+  pub says : IsSaid size end given now held done ⊎ IsCut size end given now done
 
--- however the run came to stand where it did, it stands so now
-abbrev pub GoesOn : ℕ → Option (List ℕ) → ℕ → List ℤ → Option (List ℕ) → List ℕ → Option (List ℕ) → ℕ → List ℤ → Option (List ℕ) → List ℕ → Type 0
-GoesOn size unread_old served_old rows_old given_old held_old unread_new served_new rows_new given_new held_new =
-    (bytes : List ℕ) (first : Option (List ℕ)) → Stands size bytes unread_old served_old rows_old first given_old held_old
-    → Stands size bytes unread_new served_new rows_new first given_new held_new
+-- A run has ended so behind these lines, and all is written that is said of it.
+pub record IsClosed (size : ℕ) (left unread : Option (List ℕ)) (end : End) (given now : Option (List ℕ)) (done : List ScriptLine) : Type 0 where
+  pub reads : Reads left unread done end
+  pub text : List ℕ
+  pub gives : Appends given now text
+  pub writes : Writes size done end text
 
--- however the run came to stand where it did, it has ended so now
-abbrev pub EndsBy : ℕ → Option (List ℕ) → ℕ → List ℤ → Option (List ℕ) → List ℕ → Option (List ℕ) → End → Option (List ℕ) → List ℕ → Type 0
-EndsBy size unread_old served_old rows_old given_old held_old left_new end given_new held_new =
-    (bytes : List ℕ) (first : Option (List ℕ)) → Stands size bytes unread_old served_old rows_old first given_old held_old
-    → Closes size bytes left_new end first given_new held_new
+-- wherever the run has come to stand, it stands behind the same lines still
+abbrev pub GoesOn : ℕ → Option (List ℕ) → Option (List ℕ) → List ℕ → ℕ → Table → Option (List ℕ) → Option (List ℕ) → List ℕ → ℕ → Table → Type 0
+GoesOn size unread given held served table unread' given' held' served' table' =
+    (left first : Option (List ℕ)) (done : List ScriptLine) → Stands size left unread first given held served table done
+    → Stands size left unread' first given' held' served' table' done
+
+-- wherever the run has come to stand, it stands one line further
+abbrev pub Advances : ℕ → Option (List ℕ) → Option (List ℕ) → List ℕ → ℕ → Table → Option (List ℕ) → Option (List ℕ) → List ℕ → ℕ → Table → Type 0
+Advances size unread given held served table unread' given' held' served' table' =
+    (left first : Option (List ℕ)) (done : List ScriptLine) → Stands size left unread first given held served table done
+    → (line : ScriptLine) × Stands size left unread' first given' held' served' table' (done ++ line ∷ [])
+
+-- wherever the run has come to stand, it has ended so
+abbrev pub EndsBy : ℕ → Option (List ℕ) → Option (List ℕ) → List ℕ → ℕ → Table → Option (List ℕ) → End → Option (List ℕ) → List ℕ → Type 0
+EndsBy size unread given held served table left' end given' held' =
+    (left first : Option (List ℕ)) (done : List ScriptLine) → Stands size left unread first given held served table done
+    → Closes size left left' end first given' held' done
+
+-- A run so far, from its start: it stands behind some lines, and a crash at any moment leaves what it has acknowledged.
+pub record RunSoFar (size : ℕ) (left unread given now : Option (List ℕ)) (held : List ℕ) (served : ℕ) (table : Table) (disk_old disk_now : View Image) (writes_old writes_now : ℕ) : Type 0 where
+  pub done : List ScriptLine
+  pub stands : Stands size left unread given now held served table done
+  pub crash : LeavesOnly disk_old disk_now (HasSome size done)
+  pub last : EachImage disk_now (HasTable table)
+  pub device : writes_now ≡ count_behind table.acknowledged writes_old
+
+-- A run that has ended so, but for what is said of the end.
+pub record RunEnded (size : ℕ) (left unread : Option (List ℕ)) (end : End) (given now : Option (List ℕ)) (held : List ℕ) (disk_old disk_now : View Image) (writes_old writes_now : ℕ) : Type 0 where
+  pub done : List ScriptLine
+  pub closes : Closes size left unread end given now held done
+  pub crash : LeavesOnly disk_old disk_now (HasSome size done)
+  pub last : EachImage disk_now (HasTable (table_after size empty_table done))
+  pub device : HasWritten end (table_after size empty_table done).acknowledged writes_old writes_now

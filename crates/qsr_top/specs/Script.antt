@@ -1,5 +1,5 @@
 -- An input as a script: its lines up to the first bad one.
-use Rattle.std.specs.Prelude.{◌≡◌, ℕ, ◌+◌, ◌&&◌, nat_le, List, [], ◌∷◌, length, Option, None, if◌then◌else◌}
+use Rattle.std.specs.Prelude.{⊤, ◌≡◌, ℕ, ◌+◌, ◌&&◌, nat_le, List, [], ◌∷◌, length, Option, None, Some, if◌then◌else◌}
 use Rattle.std.specs.Option.{option_map_or}
 use Rattle.qsr_top.specs.declared.line_buffer.TheConstants.{MAX_LINE}
 use Rattle.qsr_top.specs.declared.script.TheConstants.{MAX_LINES}
@@ -27,3 +27,8 @@ pub record BeginsBad (served : ℕ) (unread : List ℕ) : Type 0 where
   pub rest : List InputLine
   pub first : lines_of unread ≡ line ∷ rest
   pub bad : said (served + 1) line ≡ None
+
+-- the same, where the source tells its bytes
+abbrev pub BeginsBadTold : ℕ → Option (List ℕ) → Type 0
+BeginsBadTold served None = ⊤
+BeginsBadTold served (Some unread) = BeginsBad served unread

@@ -10,9 +10,12 @@ mod replies;
 mod reply;
 mod script;
 mod script_line;
+mod table;
 #[cfg(test)]
 mod tests;
 mod top;
+mod turns;
 
 pub use end::End;
 pub use top::{qsr_run, say_end};
+pub use turns::{ROW_BYTES, turn};

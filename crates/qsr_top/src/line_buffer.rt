@@ -1,7 +1,7 @@
 ghost use Rattle.std.specs.Prelude.{◌≡◌, ◌≢◌, ℕ, ◌+◌, ◌-◌, ◌<◌, ◌≤◌, [], ◌++◌, List, length, take, drop, slice_index, vec_len, All, IfOk, IfSome, IfNone, OnOk, OnErr};
 ghost use Rattle.std.specs.Io.KnownBytes.{Consumes, IsAtEnd, Keeps, prepend_known};
 ghost use Rattle.qsr_value.specs.Causes.{CountsFault, HasCause};
-ghost use Rattle.qsr_top.specs.NextLine.{IsHeld, IsNext, IsPartial};
+ghost use Rattle.qsr_top.specs.NextLine.{IsHeld, IsNext, IsNextTold, IsPartial};
 ghost use Rattle.qsr_top.specs.declared.line_buffer.TheConstants.{MAX_LINE};
 
 use crate::next_line::NextLine;
@@ -91,7 +91,7 @@ impl LineBuffer {
     pub fn next_line<S: Source>(&mut self, source: &mut S) -> Result<NextLine, Failed>
         requires { IsPartial self.old }
         ensures held { IfOk result (λ next. IsHeld next self.new) }
-        ensures found { IfOk result (λ next. IfSome (S.left source.new) (λ left. IsNext next self.new (self.new ++ left))) }
+        ensures found { IfOk result (λ next. IsNextTold next self.new (S.left source.new)) }
         ensures same { Keeps (prepend_known self.old (S.left source.old)) (prepend_known self.new (S.left source.new)) }
         ensures err { OnErr result (IsPartial self.new) }
         ensures cause { HasCause result (S.faults_of source.old) (S.faults_of source.new) }

@@ -3,7 +3,7 @@ ghost use Rattle.std.specs.Io.KnownBytes.{Appends};
 ghost use Rattle.qsr_io.specs.Given.{GivesFront};
 ghost use Rattle.qsr_value.specs.Causes.{HasCause};
 ghost use Rattle.std.specs.String.{string_bytes};
-ghost use Rattle.qsr_top.specs.Replies.{text_of};
+ghost use Rattle.qsr_top.specs.Replies.{numbered, text_of};
 
 use crate::reply::Reply;
 use qsr_io::{Failed, Sink, put_all};
@@ -43,12 +43,20 @@ impl Replies {
         match reply {
             Reply::Added => self.text.push_str("ok\n")?,
             Reply::TableFull => self.text.push_str("table full\n")?,
-            Reply::BadLine { number } => {
-                let line = bad_line_text(alloc, number)?;
-                self.text.push_str(line.as_str())?
-            }
+            Reply::Paused { rows } => self.push_numbered(alloc, "paused ", rows)?,
+            Reply::Done { rows } => self.push_numbered(alloc, "done ", rows)?,
+            Reply::BadLine { number } => self.push_numbered(alloc, "bad line ", number)?,
         }
         Ok(())
+    }
+
+    /// Adds a line of a word and a number. Where memory is wanting, nothing is added.
+    fn push_numbered(&mut self, alloc: Global, word: &str, number: u64) -> Result<(), AllocError>
+        ensures ok { OnOk result (self.new ≡ self.old ++ numbered word.now number) }
+        ensures err { OnErr result (self.new ≡ self.old) }
+    {
+        let line = numbered(alloc, word, number)?;
+        self.text.push_str(line.as_str())
     }
 
     /// Gives the sink all the text that is held. Where that fails, the text is still held.
@@ -65,8 +73,8 @@ impl Replies {
     }
 }
 
-fn bad_line_text(alloc: Global, number: u32) -> Result<String, AllocError>
-    ensures { IfOk result (λ text. string_bytes text ≡ text_of (Reply.BadLine number)) }
+fn numbered(alloc: Global, word: &str, number: u64) -> Result<String, AllocError>
+    ensures { IfOk result (λ text. string_bytes text ≡ numbered word.now number) }
 {
-    format!(in alloc; "bad line {number}\n")
+    format!(in alloc; "{word}{number}\n")
 }

@@ -1,15 +1,18 @@
-ghost use Rattle.std.specs.Prelude.{◌≡◌, ◌⊎◌, ℕ, ◌+◌, ◌<◌, ◌≤◌, List, [], ◌++◌, Option, Some, length, take, drop, IfOk, IfErr, IfSome, OnOk, OnErr, OnSome};
+ghost use Rattle.std.specs.Prelude.{◌≡◌, ◌⊎◌, ℕ, ◌+◌, ◌*◌, ◌<◌, ◌≤◌, List, [], ◌++◌, Option, Some, length, take, drop, IfOk, IfErr, IfSome, OnOk, OnErr, OnSome};
 ghost use Rattle.std.specs.Io.KnownBytes.{Appends, prepend_known};
+ghost use Rattle.disk_model.specs.View.{EachImage, LeavesOnly};
 ghost use Rattle.qsr_value.specs.Causes.{Rose};
-ghost use Rattle.qsr_top.specs.Ends.{CausedBy, IsFaultless};
+ghost use Rattle.qsr_top.specs.Ends.{CausedBy, CausedByDisk, CutsLine, Unwritten};
 ghost use Rattle.qsr_top.specs.Lines.{whole};
-ghost use Rattle.qsr_top.specs.Machine.{serve};
-ghost use Rattle.qsr_top.specs.NextLine.{BeginsWhole, IsHeld, IsNext, IsPartial};
-ghost use Rattle.qsr_top.specs.Progress.{Closes, GoesOn, EndsBy};
+ghost use Rattle.qsr_top.specs.Machine.{empty_table, serve};
+ghost use Rattle.qsr_top.specs.NextLine.{BeginsWholeTold, IsHeld, IsNextTold, IsPartial};
+ghost use Rattle.qsr_top.specs.Progress.{Advances, Closes, EndsBy, GoesOn, IsClosed, RunEnded};
 ghost use Rattle.qsr_top.specs.Replies.{text_of};
-ghost use Rattle.qsr_top.specs.Run.{Runs, Writes};
-ghost use Rattle.qsr_top.specs.Script.{BeginsBad, said};
+ghost use Rattle.qsr_top.specs.Rows.{HasTable, WritesRows};
+ghost use Rattle.qsr_top.specs.Run.{Ran};
+ghost use Rattle.qsr_top.specs.Script.{BeginsBadTold, said};
 ghost use Rattle.qsr_top.specs.declared.script.TheConstants.{MAX_LINES};
+ghost use Rattle.qsr_top.specs.declared.turns.TheConstants.{ROW_BYTES};
 
 use crate::end::End;
 use crate::line_buffer::{LineBuffer, MAX_LINE};
@@ -17,6 +20,9 @@ use crate::next_line::NextLine;
 use crate::replies::Replies;
 use crate::reply::Reply;
 use crate::script_line::{ScriptLine, line_of, without_cr};
+use crate::table::Table;
+use crate::turns::{ROW_BYTES, turn};
+use disk_model::Disk;
 use qsr_io::{Failed, Sink, Source, put_all};
 use qsr_value::{ListOf, Memory};
 use std::alloc::Global;
@@ -24,51 +30,111 @@ use std::alloc::Global;
 /// How many lines an input has at most. The next one is bad.
 pub const MAX_LINES: u32 = 16_777_216;
 
-/// How many bytes of the disk a row takes.
-const ROW_BYTES: u64 = 8;
-
 /// A script that is being served.
 #[derive(Debug, Drop)]
 pub struct Script {
     alloc: Global,
     /// How many bytes the disk has.
     size: u64,
-    rows: ListOf<i64>,
+    table: Table,
     /// How many lines were served.
     served: u32,
     input: LineBuffer,
     replies: Replies,
     ghost counted: { served ≤ MAX_LINES },
+    ghost within: { table.acknowledged ≤ length table.rows },
+    ghost fits: { ROW_BYTES * length table.rows ≤ size },
 }
 
 impl Script {
     pub fn new(alloc: Global, size: u64) -> Result<Script, Memory>
         ensures size { IfOk result (λ script. script.size ≡ size) }
-        ensures empty { IfOk result (λ script. (script.rows ≡ []) × (script.served ≡ 0) × (script.input ≡ []) × (script.replies ≡ [])) }
+        ensures table { IfOk result (λ script. script.table ≡ empty_table) }
+        ensures empty { IfOk result (λ script. (script.served ≡ 0) × (script.input ≡ []) × (script.replies ≡ [])) }
     {
         Ok(Script {
             alloc,
             size,
-            rows: ListOf::new(alloc),
+            table: Table {
+                rows: ListOf::new(alloc),
+                acknowledged: 0,
+            },
             served: 0,
             input: LineBuffer::new(alloc)?,
             replies: Replies::new(alloc),
         })
     }
 
-    /// Does what a line says, and holds the reply to it.
-    fn serve(&mut self, line: ScriptLine) -> Result<(), Memory>
-        ensures rows { OnOk result (self.new.rows ≡ (serve self.old.size self.old.rows line).rows) }
-        ensures reply { OnOk result (self.new.replies ≡ self.old.replies ++ text_of (serve self.old.size self.old.rows line).reply) }
+    /// Adds a row, and holds the reply.
+    fn add_row(&mut self, value: i64) -> Result<(), Memory>
+        ensures table { OnOk result (self.new.table ≡ (serve self.old.size self.old.table (ScriptLine.Row value)).table) }
+        ensures reply { OnOk result (self.new.replies ≡ self.old.replies ++ text_of (serve self.old.size self.old.table (ScriptLine.Row value)).reply) }
         ensures err { OnErr result (self.new.replies ≡ self.old.replies) }
         ensures same { (self.new.size ≡ self.old.size) × (self.new.served ≡ self.old.served) × (self.new.input ≡ self.old.input) }
     {
-        let ScriptLine::Row { value } = line;
-        if self.rows.len() as u64 >= self.size / ROW_BYTES {
+        if self.table.rows.len() as u64 >= self.size / ROW_BYTES {
             return self.replies.push(self.alloc, Reply::TableFull);
         }
-        self.rows.push(value)?;
+        self.table.rows.push(value)?;
         self.replies.push(self.alloc, Reply::Added)
+    }
+
+    /// Writes the next rows to the disk, and holds the reply.
+    fn take_turn<D: Disk>(&mut self, count: u64, disk: &mut D) -> Result<(), End>
+        requires { self.old.size ≤ D.size_of disk.old }
+        ensures table { OnOk result (self.new.table ≡ (serve self.old.size self.old.table (ScriptLine.Turn count)).table) }
+        ensures reply { OnOk result (self.new.replies ≡ self.old.replies ++ text_of (serve self.old.size self.old.table (ScriptLine.Turn count)).reply) }
+        ensures err { OnErr result (self.new.replies ≡ self.old.replies) }
+        ensures cause { IfErr result (λ end. CutsLine end (D.faults_of disk.old) (D.faults_of disk.new)) }
+        ensures crash { EachImage (D.view disk.old) (HasTable self.old.table) → LeavesOnly (D.view disk.old) (D.view disk.new) (HasTable self.old.table) }
+        ensures last { OnOk result (EachImage (D.view disk.old) (HasTable self.old.table) → EachImage (D.view disk.new) (HasTable self.new.table)) }
+        ensures unfailed { OnOk result (D.faults_of disk.new ≡ D.faults_of disk.old) }
+        ensures writes { OnOk result (WritesRows self.old.table.acknowledged self.new.table.acknowledged (D.writes_of disk.old) (D.writes_of disk.new)) }
+        ensures faults { D.faults_of disk.old ≤ D.faults_of disk.new }
+        ensures size { D.size_of disk.new ≡ D.size_of disk.old }
+        ensures same { (self.new.size ≡ self.old.size) × (self.new.served ≡ self.old.served) × (self.new.input ≡ self.old.input) }
+    {
+        let rows = self.table.rows.as_slice();
+        let all = rows.len() as u64;
+        let now = match turn(disk, rows, self.table.acknowledged, count) {
+            Ok(now) => now,
+            Err(Failed) => return Err(End::DiskFault),
+        };
+        self.table.acknowledged = now;
+        let rows = now as u64;
+        let reply = if rows == all {
+            Reply::Done { rows }
+        } else {
+            Reply::Paused { rows }
+        };
+        match self.replies.push(self.alloc, reply) {
+            Ok(()) => Ok(()),
+            Err(Memory) => Err(End::NoMemory),
+        }
+    }
+
+    /// Does what a line says, and holds the reply to it.
+    fn serve<D: Disk>(&mut self, line: ScriptLine, disk: &mut D) -> Result<(), End>
+        requires { self.old.size ≤ D.size_of disk.old }
+        ensures table { OnOk result (self.new.table ≡ (serve self.old.size self.old.table line).table) }
+        ensures reply { OnOk result (self.new.replies ≡ self.old.replies ++ text_of (serve self.old.size self.old.table line).reply) }
+        ensures err { OnErr result (self.new.replies ≡ self.old.replies) }
+        ensures cause { IfErr result (λ end. CutsLine end (D.faults_of disk.old) (D.faults_of disk.new)) }
+        ensures crash { EachImage (D.view disk.old) (HasTable self.old.table) → LeavesOnly (D.view disk.old) (D.view disk.new) (HasTable self.old.table) }
+        ensures last { OnOk result (EachImage (D.view disk.old) (HasTable self.old.table) → EachImage (D.view disk.new) (HasTable self.new.table)) }
+        ensures unfailed { OnOk result (D.faults_of disk.new ≡ D.faults_of disk.old) }
+        ensures writes { OnOk result (WritesRows self.old.table.acknowledged self.new.table.acknowledged (D.writes_of disk.old) (D.writes_of disk.new)) }
+        ensures faults { D.faults_of disk.old ≤ D.faults_of disk.new }
+        ensures size { D.size_of disk.new ≡ D.size_of disk.old }
+        ensures same { (self.new.size ≡ self.old.size) × (self.new.served ≡ self.old.served) × (self.new.input ≡ self.old.input) }
+    {
+        match line {
+            ScriptLine::Row { value } => match self.add_row(value) {
+                Ok(()) => Ok(()),
+                Err(Memory) => Err(End::NoMemory),
+            },
+            ScriptLine::Turn { count } => self.take_turn(count, disk),
+        }
     }
 
     /// What the next line says, whose text is the first `len` bytes of the held input. None where it is bad.
@@ -85,36 +151,47 @@ impl Script {
     }
 
     /// Serves the line of `len` bytes that the held input begins with.
-    fn take_line(&mut self, len: usize, line: ScriptLine) -> Result<(), End>
+    fn take_line<D: Disk>(&mut self, len: usize, line: ScriptLine, disk: &mut D) -> Result<(), End>
         requires within { len < length self.old.input }
         requires short { len ≤ MAX_LINE }
         requires count { self.old.served < MAX_LINES }
-        ensures ok { OnOk result ((left given : _) → BeginsWhole len self.old.input (self.old.input ++ left)
+        requires size { self.old.size ≤ D.size_of disk.old }
+        ensures ok { OnOk result ((left given : _) → BeginsWholeTold len self.old.input left
             → said (self.old.served + 1) (whole (take len self.old.input)) ≡ Some line
-            → GoesOn self.old.size (Some (self.old.input ++ left)) self.old.served self.old.rows given self.old.replies
-            (Some (self.new.input ++ left)) self.new.served self.new.rows given self.new.replies) }
-        ensures err { IfErr result (λ end. (left given : _) → EndsBy self.old.size (Some (self.old.input ++ left)) self.old.served self.old.rows
-            given self.old.replies (Some left) end given self.new.replies) }
+            → Advances self.old.size (prepend_known self.old.input left) given self.old.replies self.old.served self.old.table
+            (prepend_known self.new.input left) given self.new.replies self.new.served self.new.table) }
+        ensures err { IfErr result (λ end. (left given : _) → EndsBy self.old.size (prepend_known self.old.input left) given self.old.replies
+            self.old.served self.old.table left end given self.new.replies) }
+        ensures cause { IfErr result (λ end. CutsLine end (D.faults_of disk.old) (D.faults_of disk.new)) }
+        ensures crash { EachImage (D.view disk.old) (HasTable self.old.table) → LeavesOnly (D.view disk.old) (D.view disk.new) (HasTable self.old.table) }
+        ensures last { OnOk result (EachImage (D.view disk.old) (HasTable self.old.table) → EachImage (D.view disk.new) (HasTable self.new.table)) }
+        ensures unfailed { OnOk result (D.faults_of disk.new ≡ D.faults_of disk.old) }
+        ensures writes { OnOk result (WritesRows self.old.table.acknowledged self.new.table.acknowledged (D.writes_of disk.old) (D.writes_of disk.new)) }
+        ensures unwritten { IfErr result (λ end. Unwritten end (D.writes_of disk.old) (D.writes_of disk.new)) }
         ensures served { OnOk result (self.new.served ≡ self.old.served + 1) }
-        ensures faultless { IfErr result IsFaultless }
+        ensures faults { D.faults_of disk.old ≤ D.faults_of disk.new }
+        ensures size { D.size_of disk.new ≡ D.size_of disk.old }
         ensures same { self.new.size ≡ self.old.size }
     {
-        let Ok(()) = self.serve(line) else {
-            return Err(End::NoMemory);
-        };
-        self.input.consume(len + 1);
-        self.served += 1;
-        Ok(())
+        match self.serve(line, disk) {
+            Ok(()) => {
+                self.input.consume(len + 1);
+                self.served += 1;
+                Ok(())
+            }
+            Err(end) => Err(end),
+        }
     }
 
     /// Says that the next line is bad.
     fn refuse_line(&mut self) -> End
-        ensures ends { (left given : _) → BeginsBad self.old.served (self.old.input ++ left)
-            → EndsBy self.old.size (Some (self.old.input ++ left)) self.old.served self.old.rows given self.old.replies (Some left) result given self.new.replies }
-        ensures faultless { IsFaultless result }
+        ensures ends { (left given : _) → BeginsBadTold self.old.served (prepend_known self.old.input left)
+            → EndsBy self.old.size (prepend_known self.old.input left) given self.old.replies self.old.served self.old.table left result given self.new.replies }
+        ensures cause { (faults : ℕ) → CausedByDisk result faults faults }
+        ensures unwritten { (writes : ℕ) → Unwritten result writes writes }
         ensures same { self.new.size ≡ self.old.size }
     {
-        let number = self.served + 1;
+        let number = u64::from(self.served) + 1;
         match self.replies.push(self.alloc, Reply::BadLine { number }) {
             Ok(()) => End::BadLine,
             Err(Memory) => End::NoMemory,
@@ -122,20 +199,28 @@ impl Script {
     }
 
     /// Serves the next line, of which the held input tells what it is.
-    fn serve_next(&mut self, next: NextLine) -> Result<(), End>
-        requires { IsHeld next self.old.input }
-        ensures ok { OnOk result ((left given : _) → IsNext next self.old.input (self.old.input ++ left)
-            → GoesOn self.old.size (Some (self.old.input ++ left)) self.old.served self.old.rows given self.old.replies
-            (Some (self.new.input ++ left)) self.new.served self.new.rows given self.new.replies) }
-        ensures err { IfErr result (λ end. (left given : _) → IsNext next self.old.input (self.old.input ++ left)
-            → EndsBy self.old.size (Some (self.old.input ++ left)) self.old.served self.old.rows given self.old.replies (Some left) end given self.new.replies) }
+    fn serve_next<D: Disk>(&mut self, next: NextLine, disk: &mut D) -> Result<(), End>
+        requires held { IsHeld next self.old.input }
+        requires size { self.old.size ≤ D.size_of disk.old }
+        ensures ok { OnOk result ((left given : _) → IsNextTold next self.old.input left
+            → Advances self.old.size (prepend_known self.old.input left) given self.old.replies self.old.served self.old.table
+            (prepend_known self.new.input left) given self.new.replies self.new.served self.new.table) }
+        ensures err { IfErr result (λ end. (left given : _) → IsNextTold next self.old.input left
+            → EndsBy self.old.size (prepend_known self.old.input left) given self.old.replies self.old.served self.old.table left end given self.new.replies) }
+        ensures cause { IfErr result (λ end. CausedByDisk end (D.faults_of disk.old) (D.faults_of disk.new)) }
+        ensures crash { EachImage (D.view disk.old) (HasTable self.old.table) → LeavesOnly (D.view disk.old) (D.view disk.new) (HasTable self.old.table) }
+        ensures last { OnOk result (EachImage (D.view disk.old) (HasTable self.old.table) → EachImage (D.view disk.new) (HasTable self.new.table)) }
+        ensures unfailed { OnOk result (D.faults_of disk.new ≡ D.faults_of disk.old) }
+        ensures writes { OnOk result (WritesRows self.old.table.acknowledged self.new.table.acknowledged (D.writes_of disk.old) (D.writes_of disk.new)) }
+        ensures unwritten { IfErr result (λ end. Unwritten end (D.writes_of disk.old) (D.writes_of disk.new)) }
         ensures served { OnOk result (self.new.served ≡ self.old.served + 1) }
-        ensures faultless { IfErr result IsFaultless }
+        ensures faults { D.faults_of disk.old ≤ D.faults_of disk.new }
+        ensures size { D.size_of disk.new ≡ D.size_of disk.old }
         ensures same { self.new.size ≡ self.old.size }
     {
         match next {
             NextLine::Whole { len } => match self.read_line(len) {
-                Some(line) => self.take_line(len, line),
+                Some(line) => self.take_line(len, line, disk),
                 None => Err(self.refuse_line()),
             },
             NextLine::TooLong => Err(self.refuse_line()),
@@ -149,17 +234,18 @@ impl Script {
     fn read_on<S: Source, K: Sink>(&mut self, source: &mut S, sink: &mut K) -> Result<NextLine, End>
         requires { IsPartial self.old.input }
         ensures held { IfOk result (λ next. IsHeld next self.new.input) }
-        ensures found { IfOk result (λ next. IfSome (S.left source.new) (λ left. IsNext next self.new.input (self.new.input ++ left))) }
+        ensures found { IfOk result (λ next. IsNextTold next self.new.input (S.left source.new)) }
         ensures ok { OnOk result (GoesOn self.old.size
-            (prepend_known self.old.input (S.left source.old)) self.old.served self.old.rows (K.given sink.old) self.old.replies
-            (prepend_known self.new.input (S.left source.new)) self.new.served self.new.rows (K.given sink.new) self.new.replies) }
+            (prepend_known self.old.input (S.left source.old)) (K.given sink.old) self.old.replies self.old.served self.old.table
+            (prepend_known self.new.input (S.left source.new)) (K.given sink.new) self.new.replies self.new.served self.new.table) }
         ensures err { IfErr result (λ end. EndsBy self.old.size
-            (prepend_known self.old.input (S.left source.old)) self.old.served self.old.rows (K.given sink.old) self.old.replies
+            (prepend_known self.old.input (S.left source.old)) (K.given sink.old) self.old.replies self.old.served self.old.table
             (S.left source.new) end (K.given sink.new) self.new.replies) }
-        ensures cause { IfErr result (λ end. CausedBy end (S.faults_of source.old) (S.faults_of source.new) (K.faults_of sink.old) (K.faults_of sink.new)) }
+        ensures cause { IfErr result (λ end. (disk : ℕ) → CausedBy end disk disk (S.faults_of source.old) (S.faults_of source.new) (K.faults_of sink.old) (K.faults_of sink.new)) }
+        ensures unwritten { IfErr result (λ end. (writes : ℕ) → Unwritten end writes writes) }
         ensures source { S.faults_of source.old ≤ S.faults_of source.new }
         ensures sink { K.faults_of sink.old ≤ K.faults_of sink.new }
-        ensures same { (self.new.size ≡ self.old.size) × (self.new.served ≡ self.old.served) }
+        ensures same { (self.new.size ≡ self.old.size) × (self.new.served ≡ self.old.served) × (self.new.table ≡ self.old.table) }
     {
         let Ok(()) = self.replies.send(sink) else {
             return Err(End::SinkFault);
@@ -177,17 +263,18 @@ impl Script {
         sink: &mut K,
     ) -> Result<NextLine, End>
         ensures held { IfOk result (λ next. IsHeld next self.new.input) }
-        ensures found { IfOk result (λ next. IfSome (S.left source.new) (λ left. IsNext next self.new.input (self.new.input ++ left))) }
+        ensures found { IfOk result (λ next. IsNextTold next self.new.input (S.left source.new)) }
         ensures ok { OnOk result (GoesOn self.old.size
-            (prepend_known self.old.input (S.left source.old)) self.old.served self.old.rows (K.given sink.old) self.old.replies
-            (prepend_known self.new.input (S.left source.new)) self.new.served self.new.rows (K.given sink.new) self.new.replies) }
+            (prepend_known self.old.input (S.left source.old)) (K.given sink.old) self.old.replies self.old.served self.old.table
+            (prepend_known self.new.input (S.left source.new)) (K.given sink.new) self.new.replies self.new.served self.new.table) }
         ensures err { IfErr result (λ end. EndsBy self.old.size
-            (prepend_known self.old.input (S.left source.old)) self.old.served self.old.rows (K.given sink.old) self.old.replies
+            (prepend_known self.old.input (S.left source.old)) (K.given sink.old) self.old.replies self.old.served self.old.table
             (S.left source.new) end (K.given sink.new) self.new.replies) }
-        ensures cause { IfErr result (λ end. CausedBy end (S.faults_of source.old) (S.faults_of source.new) (K.faults_of sink.old) (K.faults_of sink.new)) }
+        ensures cause { IfErr result (λ end. (disk : ℕ) → CausedBy end disk disk (S.faults_of source.old) (S.faults_of source.new) (K.faults_of sink.old) (K.faults_of sink.new)) }
+        ensures unwritten { IfErr result (λ end. (writes : ℕ) → Unwritten end writes writes) }
         ensures source { S.faults_of source.old ≤ S.faults_of source.new }
         ensures sink { K.faults_of sink.old ≤ K.faults_of sink.new }
-        ensures same { (self.new.size ≡ self.old.size) × (self.new.served ≡ self.old.served) }
+        ensures same { (self.new.size ≡ self.old.size) × (self.new.served ≡ self.old.served) × (self.new.table ≡ self.old.table) }
     {
         match self.input.held_line() {
             Some(next) => Ok(next),
@@ -196,45 +283,69 @@ impl Script {
     }
 
     /// Serves the next line of the source.
-    fn step<S: Source, K: Sink>(&mut self, source: &mut S, sink: &mut K) -> Result<(), End>
-        ensures ok { OnOk result (GoesOn self.old.size
-            (prepend_known self.old.input (S.left source.old)) self.old.served self.old.rows (K.given sink.old) self.old.replies
-            (prepend_known self.new.input (S.left source.new)) self.new.served self.new.rows (K.given sink.new) self.new.replies) }
+    fn step<D: Disk, S: Source, K: Sink>(
+        &mut self,
+        disk: &mut D,
+        source: &mut S,
+        sink: &mut K,
+    ) -> Result<(), End>
+        requires { self.old.size ≤ D.size_of disk.old }
+        ensures ok { OnOk result (Advances self.old.size
+            (prepend_known self.old.input (S.left source.old)) (K.given sink.old) self.old.replies self.old.served self.old.table
+            (prepend_known self.new.input (S.left source.new)) (K.given sink.new) self.new.replies self.new.served self.new.table) }
         ensures err { IfErr result (λ end. EndsBy self.old.size
-            (prepend_known self.old.input (S.left source.old)) self.old.served self.old.rows (K.given sink.old) self.old.replies
+            (prepend_known self.old.input (S.left source.old)) (K.given sink.old) self.old.replies self.old.served self.old.table
             (S.left source.new) end (K.given sink.new) self.new.replies) }
-        ensures cause { IfErr result (λ end. CausedBy end (S.faults_of source.old) (S.faults_of source.new) (K.faults_of sink.old) (K.faults_of sink.new)) }
+        ensures cause { IfErr result (λ end. CausedBy end (D.faults_of disk.old) (D.faults_of disk.new)
+            (S.faults_of source.old) (S.faults_of source.new) (K.faults_of sink.old) (K.faults_of sink.new)) }
+        ensures crash { EachImage (D.view disk.old) (HasTable self.old.table) → LeavesOnly (D.view disk.old) (D.view disk.new) (HasTable self.old.table) }
+        ensures last { OnOk result (EachImage (D.view disk.old) (HasTable self.old.table) → EachImage (D.view disk.new) (HasTable self.new.table)) }
+        ensures unfailed { OnOk result (D.faults_of disk.new ≡ D.faults_of disk.old) }
+        ensures writes { OnOk result (WritesRows self.old.table.acknowledged self.new.table.acknowledged (D.writes_of disk.old) (D.writes_of disk.new)) }
+        ensures unwritten { IfErr result (λ end. Unwritten end (D.writes_of disk.old) (D.writes_of disk.new)) }
+        ensures served { OnOk result (self.new.served ≡ self.old.served + 1) }
+        ensures disk { D.faults_of disk.old ≤ D.faults_of disk.new }
         ensures source { S.faults_of source.old ≤ S.faults_of source.new }
         ensures sink { K.faults_of sink.old ≤ K.faults_of sink.new }
-        ensures served { OnOk result (self.new.served ≡ self.old.served + 1) }
+        ensures size { D.size_of disk.new ≡ D.size_of disk.old }
         ensures same { self.new.size ≡ self.old.size }
     {
         match self.next_line(source, sink) {
-            Ok(next) => self.serve_next(next),
+            Ok(next) => self.serve_next(next, disk),
             Err(end) => Err(end),
         }
     }
 
     /// Serves the lines of the source up to its end or to the first bad line.
-    fn serve_all<S: Source, K: Sink>(&mut self, source: &mut S, sink: &mut K) -> End
-        ensures ends { EndsBy self.old.size
-            (prepend_known self.old.input (S.left source.old)) self.old.served self.old.rows (K.given sink.old) self.old.replies
-            (S.left source.new) result (K.given sink.new) self.new.replies }
-        ensures cause { CausedBy result (S.faults_of source.old) (S.faults_of source.new) (K.faults_of sink.old) (K.faults_of sink.new) }
+    fn serve_all<D: Disk, S: Source, K: Sink>(
+        &mut self,
+        disk: &mut D,
+        source: &mut S,
+        sink: &mut K,
+    ) -> End
+        requires size { self.old.size ≤ D.size_of disk.old }
+        requires table { self.old.table ≡ empty_table }
+        requires fresh { (self.old.served ≡ 0) × (self.old.input ≡ []) × (self.old.replies ≡ []) }
+        ensures ends { RunEnded self.old.size (S.left source.old) (S.left source.new) result
+            (K.given sink.old) (K.given sink.new) self.new.replies (D.view disk.old) (D.view disk.new) (D.writes_of disk.old) (D.writes_of disk.new) }
+        ensures cause { CausedBy result (D.faults_of disk.old) (D.faults_of disk.new)
+            (S.faults_of source.old) (S.faults_of source.new) (K.faults_of sink.old) (K.faults_of sink.new) }
+        ensures disk { D.faults_of disk.old ≤ D.faults_of disk.new }
         ensures source { S.faults_of source.old ≤ S.faults_of source.new }
         ensures sink { K.faults_of sink.old ≤ K.faults_of sink.new }
     {
         'lines: loop {
-            if let Err(end) = self.step(source, sink) {
-                return end;
+            match self.step(disk, source, sink) {
+                Ok(()) => {}
+                Err(end) => return end,
             }
         }
     }
 
     /// Gives the sink what is held of the replies and what is said of the end. A sink that failed is called no more.
     fn close<K: Sink>(&mut self, end: End, sink: &mut K) -> End
-        ensures writes { (size : ℕ) (bytes left : List ℕ) (first : Option (List ℕ)) → Closes size bytes (Some left) end first (K.given sink.old) self.old.replies
-            → (text : List ℕ) × Appends first (K.given sink.new) text × Writes size bytes left result text }
+        ensures closed { (size : ℕ) (left left' first : Option (List ℕ)) (done : List ScriptLine) → Closes size left left' end first (K.given sink.old) self.old.replies done
+            → IsClosed size left left' result first (K.given sink.new) done }
         ensures same { (result ≡ end) ⊎ (result ≡ End.SinkFault) }
         ensures cause { result ≡ End.SinkFault → (end ≡ End.SinkFault) ⊎ Rose (K.faults_of sink.old) (K.faults_of sink.new) }
         ensures sink { K.faults_of sink.old ≤ K.faults_of sink.new }
@@ -252,17 +363,24 @@ impl Script {
     }
 }
 
-/// Serves the script that the source gives, over a disk of `size` bytes, and gives the sink the replies and what is
-/// said of the end.
-pub fn run<S: Source, K: Sink>(alloc: Global, size: u64, source: &mut S, sink: &mut K) -> End
-    ensures runs { Runs size (S.left source.old) (S.left source.new) (K.given sink.old) (K.given sink.new) result }
-    ensures cause { CausedBy result (S.faults_of source.old) (S.faults_of source.new) (K.faults_of sink.old) (K.faults_of sink.new) }
+/// Serves the script that the source gives, over the disk, and gives the sink the replies and what is said of the end.
+pub fn run<D: Disk, S: Source, K: Sink>(
+    alloc: Global,
+    disk: &mut D,
+    source: &mut S,
+    sink: &mut K,
+) -> End
+    ensures ran { Ran (D.size_of disk.old) (S.left source.old) (S.left source.new) (K.given sink.old) (K.given sink.new)
+        (D.view disk.old) (D.view disk.new) (D.writes_of disk.old) (D.writes_of disk.new) result }
+    ensures cause { CausedBy result (D.faults_of disk.old) (D.faults_of disk.new)
+        (S.faults_of source.old) (S.faults_of source.new) (K.faults_of sink.old) (K.faults_of sink.new) }
+    ensures disk { D.faults_of disk.old ≤ D.faults_of disk.new }
     ensures source { S.faults_of source.old ≤ S.faults_of source.new }
     ensures sink { K.faults_of sink.old ≤ K.faults_of sink.new }
 {
-    match Script::new(alloc, size) {
+    match Script::new(alloc, disk.size()) {
         Ok(mut script) => {
-            let end = script.serve_all(source, sink);
+            let end = script.serve_all(disk, source, sink);
             script.close(end, sink)
         }
         Err(Memory) => match put_all(sink, End::NoMemory.text().as_bytes()) {

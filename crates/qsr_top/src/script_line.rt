@@ -1,21 +1,42 @@
 ghost use Rattle.std.specs.Prelude.{◌≡◌};
-ghost use Rattle.qsr_top.specs.Grammar.{line_of, without_cr};
+ghost use Rattle.qsr_top.specs.Grammar.{line_of, row_of, turn_of, without_cr};
 
-use crate::number::number_of;
+use crate::number::{count_of, number_of};
 
 /// What a line of a script asks for.
 #[derive(Clone, Copy, Debug, PartialEq, Eq)]
 pub enum ScriptLine {
     /// `row V`: adds a row to the table.
     Row { value: i64 },
+    /// `turn N`: writes the next rows to the disk.
+    Turn { count: u64 },
 }
 
 /// Reads a line, without its end. None where it is none of a script's.
 pub fn line_of(text: &[u8]) -> Option<ScriptLine>
     ensures { result ≡ line_of text.now }
 {
-    let value = number_of(text.strip_prefix(b"row ")?)?;
+    match text.strip_prefix(b"row ") {
+        Some(text) => row_of(text),
+        None => match text.strip_prefix(b"turn ") {
+            Some(text) => turn_of(text),
+            None => None,
+        },
+    }
+}
+
+fn row_of(text: &[u8]) -> Option<ScriptLine>
+    ensures { result ≡ row_of text.now }
+{
+    let value = number_of(text)?;
     Some(ScriptLine::Row { value })
+}
+
+fn turn_of(text: &[u8]) -> Option<ScriptLine>
+    ensures { result ≡ turn_of text.now }
+{
+    let count = count_of(text)?;
+    Some(ScriptLine::Turn { count })
 }
 
 /// The text of a line without the carriage return that may stand before its end.

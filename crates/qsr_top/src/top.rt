@@ -1,8 +1,8 @@
-ghost use Rattle.std.specs.Prelude.{◌≡◌, ◌≢◌, ◌≤◌, ℕ, None, Some, map};
+ghost use Rattle.std.specs.Prelude.{◌≡◌, ◌≢◌, ◌⊎◌, ◌≤◌, ℕ, None, Some, map};
 ghost use Rattle.std.specs.String.{string_bytes};
 ghost use Rattle.qsr_value.specs.Causes.{Rose};
 ghost use Rattle.qsr_top.specs.Ends.{status_of};
-ghost use Rattle.qsr_top.specs.Run.{Runs};
+ghost use Rattle.qsr_top.specs.Run.{Ran};
 ghost use Rattle.qsr_top.specs.Usage.{Says};
 ghost use Rattle.qsr_top.specs.Words.{command_of};
 
@@ -35,28 +35,32 @@ pub fn qsr_run<D: Disk, S: Source, K: Sink>(
     input: &mut S,
     out: &mut K,
 ) -> u8
-    // Words that name no command are a usage fault, and no others are. Nothing is read then.
+    // Words that name no command are a usage fault, and no others are. Nothing is read or written then.
     ensures usage { command_of (map string_bytes words.now) ≡ None → Says End.Usage result (K.given out.old) (K.given out.new) }
-    ensures unread { command_of (map string_bytes words.now) ≡ None → input.new ≡ input.old }
+    ensures untouched { command_of (map string_bytes words.now) ≡ None → (input.new ≡ input.old) × (disk.new ≡ disk.old) }
     ensures only_usage { result ≡ status_of End.Usage → command_of (map string_bytes words.now) ≡ None }
 
-    // What `script` writes is the replies to the lines in order, and then what is said of the end.
+    // What `script` writes is the replies to the lines in order, and then what is said of the end. A crash at any
+    // moment leaves the rows that are acknowledged behind some of those lines, and one in the end those behind all.
     ensures script { command_of (map string_bytes words.now) ≡ Some Command.Script
-        → (end : End) × (result ≡ status_of end) × Runs (D.size_of disk.old) (S.left input.old) (S.left input.new) (K.given out.old) (K.given out.new) end }
+        → (end : End) × (result ≡ status_of end) × Ran (D.size_of disk.old) (S.left input.old) (S.left input.new) (K.given out.old) (K.given out.new)
+        (D.view disk.old) (D.view disk.new) (D.writes_of disk.old) (D.writes_of disk.new) end }
 
-    // A fault of the source or the sink is answered only where that count rose, and one of the disk never.
+    // A fault of the disk, the source or the sink is answered only where that count rose. One of the disk is not passed
+    // over, but where the sink has failed as well.
+    ensures disk_fault { result ≡ status_of End.DiskFault → Rose (D.faults_of disk.old) (D.faults_of disk.new) }
+    ensures disk_told { (result ≡ status_of End.DiskFault) ⊎ (result ≡ status_of End.SinkFault) ⊎ (D.faults_of disk.new ≡ D.faults_of disk.old) }
     ensures source_fault { result ≡ status_of End.SourceFault → Rose (S.faults_of input.old) (S.faults_of input.new) }
     ensures sink_fault { result ≡ status_of End.SinkFault → Rose (K.faults_of out.old) (K.faults_of out.new) }
-    ensures no_disk_fault { result ≢ status_of End.DiskFault }
     ensures statuses { result ≤ status_of End.NoMemory }
 
-    // No count falls, and the disk is left alone.
+    // No count falls.
+    ensures disk_count { D.faults_of disk.old ≤ D.faults_of disk.new }
     ensures source_count { S.faults_of input.old ≤ S.faults_of input.new }
     ensures sink_count { K.faults_of out.old ≤ K.faults_of out.new }
-    ensures disk { disk.new ≡ disk.old }
 {
     match command_of(words) {
-        Some(Command::Script) => script::run(alloc, disk.size(), input, out).status(),
+        Some(Command::Script) => script::run(alloc, disk, input, out).status(),
         None => say_end(End::Usage, out),
     }
 }

@@ -1,9 +1,14 @@
 -- When a fault of an outside object may be answered: by the object's count of its own faults.
-use Rattle.std.specs.Prelude.{◌≡◌, ℕ, ◌+◌, ◌-◌, ◌^◌, ◌≤◌, min, Result, MatchResult, OnErr}
+use Rattle.std.specs.Prelude.{◌≡◌, ℕ, zero, suc, ◌+◌, ◌-◌, ◌^◌, ◌≤◌, min, Result, MatchResult, OnErr}
 
 -- one more, unless the count stands at the last value of u64
 abbrev pub next_count : ℕ → ℕ
 next_count n = min (n + 1) (2 ^ 64 - 1)
+
+-- the count behind so many more calls
+abbrev pub count_behind : ℕ → ℕ → ℕ
+count_behind zero count = count
+count_behind (suc calls) count = next_count (count_behind calls count)
 
 -- a count rose, or stood at the last value of u64
 pub record Rose (old new : ℕ) : Type 0 where

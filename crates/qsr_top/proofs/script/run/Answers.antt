@@ -1,15 +1,18 @@
-use Rattle.qsr_top.proofs.RunLemmas.{Runs-closed, Runs-cut_at_once}
+use Rattle.qsr_top.proofs.RunLemmas.{Ran-at_once, Ran-closed, Ran-cut_at_once}
 use Rattle.qsr_top.proofs.script.run.Goals as goal
 
-pub returns-in-Ok-clause-runs : goal.returns-in-Ok-clause-runs
-returns-in-Ok-clause-runs g c =
-    let empty = c.in-Ok.ensures.empty in
-    let ends = rw (c.in-Ok.ensures.size, empty.0, empty.1, empty.2, empty.3) at c.serve_all-end.ensures.ends in
-    Runs-closed c.args.size (g.S.Source.left c.args.source.now) (g.S.Source.left c.serve_all-end.new.source) (g.K.Sink.given c.args.sink.now)
-    (g.K.Sink.given c.serve_all-end.new.sink) (g.K.Sink.given c.close.new.sink) c.serve_all-end.result c.close.result c.serve_all-end.new.self.replies
-    ends c.close.ensures.writes
+pub returns-in-Ok-clause-ran : goal.returns-in-Ok-clause-ran
+returns-in-Ok-clause-ran g c =
+    let ended = rw (c.in-Ok.ensures.size, c.size.ensures) at c.serve_all-end.ensures.ends in
+    Ran-closed ended c.close.ensures.same (c.close.ensures.closed (g.D.Disk.size_of c.args.disk.now) (g.S.Source.left c.args.source.now) (g.S.Source.left c.serve_all-end.new.source)
+    (g.K.Sink.given c.args.sink.now) ended.done ended.closes)
 
-pub returns-in-Err-put_all-clause-runs : goal.returns-in-Err-put_all-clause-runs
-returns-in-Err-put_all-clause-runs g c =
+pub returns-in-Ok-put_all-clause-ran : goal.returns-in-Ok-put_all-clause-ran
+returns-in-Ok-put_all-clause-ran g c =
+    let says = rw (c.as_bytes.ensures.value, c.text.ensures) at c.in-Ok-put_all.ensures.ok in
+    Ran-at_once (g.D.Disk.size_of c.args.disk.now) (g.S.Source.left c.args.source.now) (g.K.Sink.given c.args.sink.now) (g.K.Sink.given c.put_all.new.sink) (g.D.Disk.view c.args.disk.now) (g.D.Disk.writes_of c.args.disk.now) says
+
+pub returns-in-Err-put_all-clause-ran : goal.returns-in-Err-put_all-clause-ran
+returns-in-Err-put_all-clause-ran g c =
     let cut = rw (c.as_bytes.ensures.value, c.text.ensures) at c.in-Err-put_all.ensures.failed in
-    Runs-cut_at_once c.args.size (g.S.Source.left c.args.source.now) (g.K.Sink.given c.args.sink.now) (g.K.Sink.given c.put_all.new.sink) cut
+    Ran-cut_at_once (g.D.Disk.size_of c.args.disk.now) (g.S.Source.left c.args.source.now) (g.K.Sink.given c.args.sink.now) (g.K.Sink.given c.put_all.new.sink) (g.D.Disk.view c.args.disk.now) (g.D.Disk.writes_of c.args.disk.now) cut

@@ -1,24 +1,35 @@
-use Rattle.std.proofs.Common.{◌≡◌}
+use denote.Enum.Bare.{same_true}
+use Rattle.std.proofs.Common.{◌≡◌, subst, sym}
+use Rattle.qsr_top.specs.declared.end.End.{End}
 use Rattle.qsr_top.specs.declared.end.End.TheVariants.{SinkFault}
-use Rattle.qsr_top.proofs.RunLemmas.{Writes-all, Writes-end, Writes-replies}
+use Rattle.qsr_top.specs.contracts.end.End.{the_type}
+use Rattle.qsr_top.specs.Progress.{Closes, IsClosed}
+use Rattle.qsr_top.proofs.RunLemmas.{IsClosed-all, IsClosed-before, IsClosed-end, IsClosed-replies}
 use Rattle.qsr_top.proofs.script.Script.close.Goals as goal
 
-pub returns-in_default-clause-writes : goal.returns-in_default-clause-writes
-returns-in_default-clause-writes g c size bytes left first closes =
+pub returns-then-eq-clause-closed : goal.returns-then-eq-clause-closed
+returns-then-eq-clause-closed g c size left left' first done closes =
+    let is : c.args.end ≡ SinkFault = same_true the_type tt c.args.end SinkFault (sym c.if-eq.ensures) in
+    let closes' = subst (λ (end : End). Closes size left left' end first (g.K.Sink.given c.args.sink.now) c.args.self.now.replies done) is closes in
+    subst (λ (end : End). IsClosed size left left' end first (g.K.Sink.given c.args.sink.now) done) (sym is)
+    (IsClosed-before size left left' first (g.K.Sink.given c.args.sink.now) c.args.self.now.replies done closes')
+
+pub returns-in_default-clause-closed : goal.returns-in_default-clause-closed
+returns-in_default-clause-closed g c size left left' first done closes =
     let goes : c.args.end ≡ SinkFault → ⊥ = λ is. let test = rw is at c.eq.ensures in cc in
-    Writes-replies size bytes left c.args.end first (g.K.Sink.given c.args.sink.now) (g.K.Sink.given c.send.new.sink) c.args.self.now.replies
+    IsClosed-replies size left left' c.args.end first (g.K.Sink.given c.args.sink.now) (g.K.Sink.given c.send.new.sink) c.args.self.now.replies done
     goes closes c.in_default.ensures.failed
 
-pub returns-in_default-put_all-clause-writes : goal.returns-in_default-put_all-clause-writes
-returns-in_default-put_all-clause-writes g c size bytes left first closes =
+pub returns-in_default-put_all-clause-closed : goal.returns-in_default-put_all-clause-closed
+returns-in_default-put_all-clause-closed g c size left left' first done closes =
     let goes : c.args.end ≡ SinkFault → ⊥ = λ is. let test = rw is at c.eq.ensures in cc in
     let cut = rw (c.as_bytes.ensures.value, c.text.ensures) at c.in_default-put_all.ensures.failed in
-    Writes-end size bytes left c.args.end first (g.K.Sink.given c.args.sink.now) (g.K.Sink.given c.send.new.sink) (g.K.Sink.given c.put_all.new.sink) c.args.self.now.replies
+    IsClosed-end size left left' c.args.end first (g.K.Sink.given c.args.sink.now) (g.K.Sink.given c.send.new.sink) (g.K.Sink.given c.put_all.new.sink) c.args.self.now.replies done
     goes closes c.in-Ok.ensures.ok cut
 
-pub returns-clause-writes : goal.returns-clause-writes
-returns-clause-writes g c size bytes left first closes =
+pub returns-clause-closed : goal.returns-clause-closed
+returns-clause-closed g c size left left' first done closes =
     let goes : c.args.end ≡ SinkFault → ⊥ = λ is. let test = rw is at c.eq.ensures in cc in
     let says = rw (c.as_bytes.ensures.value, c.text.ensures) at c.in-Ok-put_all.ensures.ok in
-    Writes-all size bytes left c.args.end first (g.K.Sink.given c.args.sink.now) (g.K.Sink.given c.send.new.sink) (g.K.Sink.given c.put_all.new.sink) c.args.self.now.replies
+    IsClosed-all size left left' c.args.end first (g.K.Sink.given c.args.sink.now) (g.K.Sink.given c.send.new.sink) (g.K.Sink.given c.put_all.new.sink) c.args.self.now.replies done
     goes closes c.in-Ok.ensures.ok says

@@ -1,18 +1,20 @@
 use Rattle.std.proofs.Common.{◌≡◌, ◌≤◌, ◌+◌, ◌-◌}
 use Rattle.std.specs.Io.KnownBytes.{prepend_known}
-use Rattle.qsr_top.specs.Progress.{GoesOn}
+use Rattle.qsr_top.specs.Progress.{RunSoFar}
 use Rattle.qsr_top.specs.declared.script.TheConstants.{MAX_LINES}
 use Rattle.qsr_top.proofs.script.Script.serve_all.Given as goal
 
--- the run has come to stand where it stands now, and no call failed
+-- the run stands where it stands now, and no call failed
 abbrev pub invariant-lines : goal.invariant-lines
 invariant-lines g l = record {
-  goes : GoesOn l.fn.self.size
-      (prepend_known l.fn.self.input (g.S.Source.left l.fn.source)) l.fn.self.served l.fn.self.rows (g.K.Sink.given l.fn.sink) l.fn.self.replies
-      (prepend_known l.self.input (g.S.Source.left l.source)) l.self.served l.self.rows (g.K.Sink.given l.sink) l.self.replies;
+  run : RunSoFar l.fn.self.size (g.S.Source.left l.fn.source) (prepend_known l.self.input (g.S.Source.left l.source))
+      (g.K.Sink.given l.fn.sink) (g.K.Sink.given l.sink) l.self.replies l.self.served l.self.table (g.D.Disk.view l.fn.disk) (g.D.Disk.view l.disk)
+      (g.D.Disk.writes_of l.fn.disk) (g.D.Disk.writes_of l.disk);
+  disk : g.D.Disk.faults_of l.disk ≡ g.D.Disk.faults_of l.fn.disk;
   source : g.S.Source.faults_of l.fn.source ≤ g.S.Source.faults_of l.source;
   sink : g.K.Sink.faults_of l.fn.sink ≤ g.K.Sink.faults_of l.sink;
   size : l.self.size ≡ l.fn.self.size;
+  fits : l.self.size ≤ g.D.Disk.size_of l.disk;
 }
 
 abbrev pub decreases-lines : goal.decreases-lines

@@ -1,8 +1,13 @@
-use Rattle.qsr_top.proofs.RunLemmas.{GoesOn-line}
+use Rattle.qsr_top.proofs.RunLemmas.{Advances-line, EndsBy-cut}
 use Rattle.qsr_top.proofs.script.Script.take_line.Goals as goal
 
-pub returns-clause-ok : goal.returns-clause-ok
-returns-clause-ok c left given begins says =
+pub returns-in-Ok-clause-ok : goal.returns-in-Ok-clause-ok
+returns-in-Ok-clause-ok g c left given begins says =
     let script = c.args.self.now in
-    rw (c.consume.ensures, c.in-Ok.ensures.rows, c.in-Ok.ensures.reply, c.serve.ensures.same.1, c.serve.ensures.same.2)
-    (GoesOn-line script.size script.input left script.served script.rows given script.replies c.args.len c.args.line begins says)
+    rw (c.consume.ensures, c.in-Ok.ensures.table, c.in-Ok.ensures.reply, c.serve.ensures.same.1, c.serve.ensures.same.2)
+    (Advances-line script.size script.input left given script.replies script.served script.table c.args.len c.args.line begins says)
+
+pub returns-in-Err-clause-err : goal.returns-in-Err-clause-err
+returns-in-Err-clause-err g c left given =
+    let script = c.args.self.now in
+    rw c.in-Err.ensures.err (EndsBy-cut c.in-Err.end _ _ c.in-Err.ensures.cause script.size script.input left given script.replies script.served script.table)
