@@ -1,5 +1,6 @@
 pub mod Images
 pub mod MemFields
 pub mod MemRuns
+pub mod Pieces
 pub mod Runs
 pub mod Splits

@@ -44,12 +44,12 @@ unwritten_place false unsynced m synced (inl same) = inl same
 unwritten_place false true m synced (inr since) = inr refl
 unwritten_place false false m synced (inr since) = inr since
 
-written_holds : (at : ℕ) (bytes : List ℕ) (c : Image) → Holds (written at bytes c) at bytes
+pub written_holds : (at : ℕ) (bytes : List ℕ) (c : Image) → Holds (written at bytes c) at bytes
 written_holds at bytes c i within =
     let place : at + i - at ≡ i = omega arith in
     rw (within_is at (length bytes) (at + i) (omega arith) (omega (arith, within)), place)
 
-written_outside : (at : ℕ) (bytes : List ℕ) (c : Image) → SameOutside at (length bytes) c (written at bytes c)
+pub written_outside : (at : ℕ) (bytes : List ℕ) (c : Image) → SameOutside at (length bytes) c (written at bytes c)
 written_outside at bytes c = record {
   below = λ i less. rw (below_is at (length bytes) i less);
   above = λ i more. rw (above_is at (length bytes) i more);

@@ -16,11 +16,12 @@ pub record DiskState : Type 0 where
   pub room : ℕ
   -- the numbers of the calls that fail, counted from 0
   pub failing : List ℕ
-  -- how many calls came, how many of them failed, were reads, and were writes
+  -- how many calls came, how many of them failed, were reads, were writes, and were syncs
   pub calls : ℕ
   pub faults : ℕ
   pub reads : ℕ
   pub writes : ℕ
+  pub syncs : ℕ
 
 -- a disk that was not called yet
 abbrev pub fresh : List ℕ → ℕ → List ℕ → DiskState
@@ -33,6 +34,7 @@ fresh base room failing = record {
   faults = 0;
   reads = 0;
   writes = 0;
+  syncs = 0;
 }
 
 abbrev pub IsFull : DiskState → Type 0

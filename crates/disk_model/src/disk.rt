@@ -15,6 +15,9 @@ pub trait Disk {
 
     ghost writes_of: { Self → ℕ };
 
+    /// How many syncs have been made so far, with those that failed.
+    ghost syncs_of: { Self → ℕ };
+
     /// What reads give, and what a crash may leave, now and since an earlier moment.
     ghost view: { Self → View Image };
 
@@ -34,7 +37,7 @@ pub trait Disk {
     fn writes(&self) -> u64
         ensures { result ≡ writes_of self.now };
 
-    /// Fills `out` with the bytes that stand at `at`.
+    /// Fills `out` with the bytes that stand at `at`. What a read that fails leaves in `out` is free.
     fn read(&mut self, at: u64, out: &mut [u8]) -> Result<(), Failed>
         requires some { 0 < length out.old }
         requires page { length out.old ≤ 4096 }
@@ -46,7 +49,8 @@ pub trait Disk {
         ensures size { size_of self.new ≡ size_of self.old }
         ensures faults { CountsFault result (faults_of self.old) (faults_of self.new) }
         ensures reads { reads_of self.new ≡ next_count (reads_of self.old) }
-        ensures writes { writes_of self.new ≡ writes_of self.old };
+        ensures writes { writes_of self.new ≡ writes_of self.old }
+        ensures syncs { syncs_of self.new ≡ syncs_of self.old };
 
     /// Puts bytes at `at`. Until a sync a crash may leave any bytes in their range. A write that fails counts as
     /// written.
@@ -61,7 +65,8 @@ pub trait Disk {
         ensures size { size_of self.new ≡ size_of self.old }
         ensures faults { CountsFault result (faults_of self.old) (faults_of self.new) }
         ensures reads { reads_of self.new ≡ reads_of self.old }
-        ensures writes { writes_of self.new ≡ next_count (writes_of self.old) };
+        ensures writes { writes_of self.new ≡ next_count (writes_of self.old) }
+        ensures syncs { syncs_of self.new ≡ syncs_of self.old };
 
     /// After it a crash leaves what a read gives.
     fn sync(&mut self) -> Result<(), Failed>
@@ -71,5 +76,6 @@ pub trait Disk {
         ensures size { size_of self.new ≡ size_of self.old }
         ensures faults { CountsFault result (faults_of self.old) (faults_of self.new) }
         ensures reads { reads_of self.new ≡ reads_of self.old }
-        ensures writes { writes_of self.new ≡ writes_of self.old };
+        ensures writes { writes_of self.new ≡ writes_of self.old }
+        ensures syncs { syncs_of self.new ≡ next_count (syncs_of self.old) };
 }

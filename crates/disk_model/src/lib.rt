@@ -1,10 +1,12 @@
 //! The disk that a store lies on: the trait, a disk in memory, and a disk over a file.
 #![tactic(auto)]
 
+mod counted;
 mod disk;
 mod file;
 mod history;
 mod memory;
+mod positioned;
 #[cfg(test)]
 mod tests;
 

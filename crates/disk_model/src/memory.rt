@@ -1,4 +1,4 @@
-ghost use Rattle.std.specs.Prelude.{◌≡◌, ◌⊎◌, ◌+◌, ◌-◌, ◌^◌, ◌<◌, ◌≤◌, ◌↔◌, length, replicate, slice_index, is_ok, if◌then◌else◌, IsErr, IfOk, OnOk, Contains, []};
+ghost use Rattle.std.specs.Prelude.{◌≡◌, ◌⊎◌, ◌+◌, ◌-◌, ◌^◌, ◌<◌, ◌≤◌, ◌↔◌, length, replicate, slice_index, is_ok, if◌then◌else◌, IsErr, IfOk, OnOk, OnErr, Contains, []};
 ghost use Rattle.disk_model.specs.Image.{Holds, SameOutside};
 ghost use Rattle.disk_model.specs.View.{Stays, Steps, IsSynced};
 ghost use Rattle.disk_model.specs.Replay.{Wrote, Synced, SyncFailed, picked, before};
@@ -27,6 +27,7 @@ pub struct MemDisk {
     faults: u64,
     reads: u64,
     writes: u64,
+    syncs: u64,
 }
 
 impl Model for MemDisk {
@@ -36,7 +37,7 @@ impl Model for MemDisk {
 
     ghost Value = { DiskState };
 
-    ghost view = { λ d. record { base = d.base.items; log = events_of d.log.items; room = d.room; failing = d.failing; calls = d.calls; faults = d.faults; reads = d.reads; writes = d.writes } };
+    ghost view = { λ d. record { base = d.base.items; log = events_of d.log.items; room = d.room; failing = d.failing; calls = d.calls; faults = d.faults; reads = d.reads; writes = d.writes; syncs = d.syncs } };
 
     ghost invariant = { λ d. IsSound d.base.items d.bytes.items d.log.items d.room (vec_capacity d.log) d.calls };
 }
@@ -83,6 +84,7 @@ impl MemDisk {
             faults: 0,
             reads: 0,
             writes: 0,
+            syncs: 0,
         })
     }
 
@@ -125,6 +127,8 @@ impl Disk for MemDisk {
 
     ghost writes_of = { λ d. d.writes };
 
+    ghost syncs_of = { λ d. d.syncs };
+
     ghost view = { view_of };
 
     fn size(&self) -> u64 {
@@ -143,6 +147,7 @@ impl Disk for MemDisk {
         self.writes
     }
 
+    /// A read that fails leaves `out` as it was.
     fn read(&mut self, at: u64, out: &mut [u8]) -> Result<(), Failed>
         requires some { 0 < length out.old }
         requires page { length out.old ≤ 4096 }
@@ -155,8 +160,10 @@ impl Disk for MemDisk {
         ensures faults { CountsFault result self.old.faults self.new.faults }
         ensures reads { self.new.reads ≡ next_count self.old.reads }
         ensures writes { self.new.writes ≡ self.old.writes }
+        ensures syncs { self.new.syncs ≡ self.old.syncs }
 
         ensures fails { IsErr result ↔ Contains self.old.failing self.old.calls }
+        ensures unread { OnErr result (out.new ≡ out.old) }
         ensures calls { self.new.calls ≡ next_count self.old.calls }
         ensures log { self.new.log ≡ self.old.log }
         ensures setup { SameSetup self.old self.new }
@@ -185,6 +192,7 @@ impl Disk for MemDisk {
         ensures faults { CountsFault result self.old.faults self.new.faults }
         ensures reads { self.new.reads ≡ self.old.reads }
         ensures writes { self.new.writes ≡ next_count self.old.writes }
+        ensures syncs { self.new.syncs ≡ self.old.syncs }
 
         ensures fails { IsErr result ↔ (Contains self.old.failing self.old.calls ⊎ IsFull self.old) }
         ensures calls { self.new.calls ≡ next_count self.old.calls }
@@ -216,6 +224,7 @@ impl Disk for MemDisk {
         ensures faults { CountsFault result self.old.faults self.new.faults }
         ensures reads { self.new.reads ≡ self.old.reads }
         ensures writes { self.new.writes ≡ self.old.writes }
+        ensures syncs { self.new.syncs ≡ next_count self.old.syncs }
 
         ensures fails { IsErr result ↔ (Contains self.old.failing self.old.calls ⊎ IsFull self.old) }
         ensures calls { self.new.calls ≡ next_count self.old.calls }
@@ -224,6 +233,7 @@ impl Disk for MemDisk {
     {
         let number = self.calls;
         self.calls = self.calls.saturating_add(1);
+        self.syncs = self.syncs.saturating_add(1);
         if self.log.len() >= self.room as usize {
             self.faults = self.faults.saturating_add(1);
             return Err(Failed);

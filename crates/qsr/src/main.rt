@@ -2,6 +2,14 @@
 #![tactic(auto)]
 
 #[cfg(test)]
+mod example_tests;
+#[cfg(test)]
+mod long_tests;
+#[cfg(test)]
+mod rows_tests;
+#[cfg(test)]
+mod runs;
+#[cfg(test)]
 mod tests;
 #[cfg(test)]
 mod turn_tests;

@@ -1,4 +1,4 @@
-ghost use Rattle.std.specs.Prelude.{◌≡◌, ◌⊎◌, ◌+◌, ◌-◌, ◌<◌, ◌≤◌, ◌↔◌, [], min, length, take, IsErr, IfOk, OnErr, Contains, Some};
+ghost use Rattle.std.specs.Prelude.{◌≡◌, ◌⊎◌, ◌+◌, ◌-◌, ◌<◌, ◌≤◌, ◌↔◌, [], min, length, take, drop, IsErr, IfOk, OnErr, Contains, Some};
 ghost use Rattle.std.specs.Io.{ReadsAtMost};
 ghost use Rattle.std.specs.Io.KnownBytes.{ReadConsumes, WriteAppends};
 ghost use Rattle.qsr_value.specs.Causes.{CountsFault, next_count};
@@ -12,6 +12,7 @@ use std::marker::Model;
 fn copy_front(bytes: &[u8], out: &mut [u8]) -> usize
     ensures count { result ≡ min (length bytes.now) (length out.old) }
     ensures copied { take result out.new ≡ take result bytes.now }
+    ensures rest { drop result out.new ≡ drop result out.old }
 {
     let count = bytes.len().min(out.len());
     out[..count].copy_from_slice(&bytes[..count]);
@@ -62,7 +63,8 @@ impl Source for MemSource {
         self.faults
     }
 
-    /// It gives as many bytes as there are and as `out` takes, but for the calls that are to fail.
+    /// It gives as many bytes as there are and as `out` takes, but for the calls that are to fail. It writes no other
+    /// byte of `out`.
     fn read(&mut self, out: &mut [u8]) -> Result<usize, Failed>
         requires { 0 < length out.old }
         ensures bound { ReadsAtMost result out.new }
@@ -71,6 +73,8 @@ impl Source for MemSource {
 
         ensures fails { IsErr result ↔ Contains self.old.failing self.old.calls }
         ensures whole { IfOk result (λ n. n ≡ min (length self.old.left) (length out.new)) }
+        ensures rest { IfOk result (λ n. drop n out.new ≡ drop n out.old) }
+        ensures unread { OnErr result (out.new ≡ out.old) }
         ensures calls { self.new.calls ≡ next_count self.old.calls }
         ensures failing { self.new.failing ≡ self.old.failing }
     {

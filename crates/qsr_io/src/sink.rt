@@ -1,6 +1,6 @@
 ghost use Rattle.std.specs.Prelude.{◌≡◌, ℕ, ◌<◌, ◌≤◌, List, length, Option, IfOk, OnOk, OnErr};
 ghost use Rattle.std.specs.Io.KnownBytes.{Appends, WriteAppends};
-ghost use Rattle.qsr_value.specs.Causes.{CountsFault, HasCause};
+ghost use Rattle.qsr_value.specs.Causes.{CountsFault};
 ghost use Rattle.qsr_io.specs.Given.{GivesFront};
 
 use qsr_value::Failed;
@@ -29,7 +29,7 @@ pub trait Sink {
 pub fn put_all<K: Sink>(sink: &mut K, bytes: &[u8]) -> Result<(), Failed>
     ensures ok { OnOk result (Appends (K.given sink.old) (K.given sink.new) bytes.now) }
     ensures failed { OnErr result (GivesFront (K.given sink.old) (K.given sink.new) bytes.now) }
-    ensures cause { HasCause result (K.faults_of sink.old) (K.faults_of sink.new) }
+    ensures cause { CountsFault result (K.faults_of sink.old) (K.faults_of sink.new) }
 {
     let mut at = 0;
     while at < bytes.len() {

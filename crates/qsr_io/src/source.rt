@@ -17,7 +17,8 @@ pub trait Source {
         ensures { result ≡ faults_of self.now };
 
     /// Moves the next bytes to the front of `out` and answers how many. 0 is the end of the input. A read that
-    /// fails takes nothing.
+    /// fails takes nothing. What stands in `out` behind the bytes that were moved is free, and where the read fails
+    /// all of `out` is.
     fn read(&mut self, out: &mut [u8]) -> Result<usize, Failed>
         requires { 0 < length out.old }
         ensures bound { ReadsAtMost result out.new }

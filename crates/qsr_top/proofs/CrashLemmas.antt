@@ -9,13 +9,15 @@ use Rattle.disk_model.proofs.Runs.{no_call, and_then, weaker_run, each_now}
 use Rattle.qsr_top.specs.declared.end.End.{End}
 use Rattle.qsr_top.specs.declared.script_line.ScriptLine.{ScriptLine}
 use Rattle.qsr_top.specs.declared.table.Table.{Table}
-use Rattle.qsr_top.specs.Machine.{empty_table, table_after}
-use Rattle.qsr_top.specs.Progress.{IsAtTold, Advances, EndsBy, RunSoFar, RunEnded}
+use Rattle.qsr_top.specs.Machine.{count_listed, empty_table, serve, table_after}
+use Rattle.qsr_top.specs.Progress.{IsAtTold, Advances, Breaks, RunSoFar, RunEnded}
 use Rattle.qsr_top.specs.Rows.{HasSome, HasTable, WritesRows}
-use Rattle.qsr_top.specs.Run.{HasWritten}
-use Rattle.qsr_top.specs.Ends.{Unwritten}
+use Rattle.qsr_top.specs.Run.{HasRead, HasWritten}
+use Rattle.qsr_top.specs.Answers.{IsAnswer, IsPartOf, Tells}
 use Rattle.qsr_value.specs.Causes.{count_behind, next_count}
-use Rattle.qsr_top.specs.declared.end.End.TheVariants.{Finished, BadLine, Usage, DiskFault, SourceFault, SinkFault, NoMemory}
+use Rattle.qsr_top.specs.declared.script_line.ScriptLine.TheVariants.{Row, Turn, Rows}
+use Rattle.qsr_top.proofs.AnswerLemmas.{AreAnswers-more, IsAnswer-told, IsPartOf-told}
+use Rattle.qsr_top.proofs.ProgressLemmas.{count_listed-more}
 
 HasTable-empty : (c : Image) → HasTable empty_table c
 HasTable-empty c = record { each = λ k lt. absurd (omega arith) }
@@ -43,10 +45,12 @@ at_start : (left : Option (List ℕ)) → IsAtTold left (prepend_known [] left) 
 at_start None = tt
 at_start (Some bytes) = record { script = refl; lines = omega arith; ends = omega arith }
 
-pub RunSoFar-start : (size : ℕ) (left given : Option (List ℕ)) (disk : View Image) (writes : ℕ)
-    → RunSoFar size left (prepend_known [] left) given given [] 0 empty_table disk disk writes writes
-RunSoFar-start size left given disk writes = record {
+pub RunSoFar-start : (size : ℕ) (left given : Option (List ℕ)) (disk : View Image) (reads writes : ℕ)
+    → RunSoFar size left (prepend_known [] left) given given [] 0 empty_table disk disk reads reads writes writes
+RunSoFar-start size left given disk reads writes = record {
   done = [];
+  answers = [];
+  are_answers = refl;
   stands = record {
     count = refl;
     built = refl;
@@ -55,7 +59,8 @@ RunSoFar-start size left given disk writes = record {
   };
   crash = no_call disk (λ c now. HasSome-all size [] c (HasTable-empty c));
   last = λ c now. HasTable-empty c;
-  device = refl;
+  read = refl;
+  written = refl;
 }
 
 -- more calls behind some
@@ -73,52 +78,74 @@ writes_more before after first old new so_far writes =
     writes.each ∙ ap (count_behind writes.rows) so_far ∙ sym (count_behind-more writes.rows before first)
     ∙ ap (λ calls. count_behind calls first) (let more = writes.more in omega (arith, more))
 
+-- more rows were read
+reads_more : (before more first old new : ℕ) → old ≡ count_behind before first → new ≡ count_behind more old → new ≡ count_behind (before + more) first
+reads_more before more first old new so_far reads =
+    reads ∙ ap (count_behind more) so_far ∙ sym (count_behind-more more before first) ∙ ap (λ calls. count_behind calls first) (omega arith)
+
+-- what the start of a run tells is told still
+tells_still : {size : ℕ} {done : List ScriptLine} {table : Table} {old mid : View Image} → LeavesOnly old mid (HasSome size done) → EachImage mid (HasTable table)
+    → old.honest → Tells mid table
+tells_still run last honest = record { honest = run.honest.1 honest; rows = last }
+
 -- a run goes on by a line
-pub RunSoFar-line : {size : ℕ} {left unread given now : Option (List ℕ)} {held : List ℕ} {served : ℕ} {table : Table} {old mid : View Image} {first before : ℕ}
-    → RunSoFar size left unread given now held served table old mid first before
-    → (new : View Image) (unread' now' : Option (List ℕ)) (held' : List ℕ) (served' : ℕ) (table' : Table) (after : ℕ)
-    → Advances size unread now held served table unread' now' held' served' table'
+pub RunSoFar-line : {size : ℕ} {left unread given now : Option (List ℕ)} {held : List ℕ} {served : ℕ} {table : Table} {old mid : View Image} {first_reads reads first_writes writes : ℕ}
+    → RunSoFar size left unread given now held served table old mid first_reads reads first_writes writes
+    → (new : View Image) (unread' now' : Option (List ℕ)) (held' : List ℕ) (served' : ℕ) (table' : Table) (reads' writes' : ℕ)
+    → Advances (Tells mid table) size unread now held served table unread' now' held' served' table' reads reads' writes writes'
     → (EachImage mid (HasTable table) → LeavesOnly mid new (HasTable table))
     → (EachImage mid (HasTable table) → EachImage new (HasTable table'))
-    → WritesRows table.acknowledged table'.acknowledged before after
-    → RunSoFar size left unread' given now' held' served' table' old new first after
-RunSoFar-line {size = size} {left = left} {given = given} {table = table} {first = first} {before = before} run new unread' now' held' served' table' after advances crash last writes =
-    let next = advances left given run.done run.stands in
+    → RunSoFar size left unread' given now' held' served' table' old new first_reads reads' first_writes writes'
+RunSoFar-line {size = size} {left = left} {given = given} {table = table} {old = old} {first_reads = first_reads} {reads = reads} {first_writes = first_writes} {writes = writes} run new unread' now' held' served' table' reads' writes' next crash last =
     let built = run.stands.built in
     record {
-      done = run.done ++ next.0 ∷ [];
-      stands = next.1;
-      crash = and_then (weaker_run run.crash (λ c has. HasSome-more size run.done next.0 c has)) (crash run.last)
-          (λ c has. HasSome-more size run.done next.0 c (HasSome-all size run.done c (subst (λ (table : Table). HasTable table c) built has)));
+      done = run.done ++ next.line ∷ [];
+      answers = run.answers ++ next.text;
+      are_answers = AreAnswers-more old.honest size empty_table run.done next.line run.answers next.text run.are_answers
+          (subst (λ (table : Table). IsAnswer old.honest size table next.line next.text) built (IsAnswer-told (tells_still run.crash run.last) next.answer));
+      stands = next.stands left given run.done run.answers run.stands;
+      crash = and_then (weaker_run run.crash (λ c has. HasSome-more size run.done next.line c has)) (crash run.last)
+          (λ c has. HasSome-more size run.done next.line c (HasSome-all size run.done c (subst (λ (table : Table). HasTable table c) built has)));
       last = last run.last;
-      device = writes_more table.acknowledged table'.acknowledged first before after run.device writes;
+      read = subst (λ (rows : ℕ). reads' ≡ count_behind rows first_reads) (sym (count_listed-more size empty_table run.done next.line))
+          (reads_more (count_listed size empty_table run.done) (length (serve size (table_after size empty_table run.done) next.line).listed) first_reads reads reads' run.read
+          (subst (λ (table : Table). reads' ≡ count_behind (length (serve size table next.line).listed) reads) built next.read));
+      written = writes_more table.acknowledged table'.acknowledged first_writes writes writes' run.written next.written;
     }
 
--- what the disk was asked to write by a run that has ended
-ended_writes : (end : End) (rows rows' first before after : ℕ) → rows ≡ rows' → before ≡ count_behind rows first → Unwritten end before after → HasWritten end rows' first after
-ended_writes Finished rows rows' first before after same so_far none = none ∙ so_far ∙ ap (λ rows. count_behind rows first) same
-ended_writes BadLine rows rows' first before after same so_far none = none ∙ so_far ∙ ap (λ rows. count_behind rows first) same
-ended_writes SourceFault rows rows' first before after same so_far none = none ∙ so_far ∙ ap (λ rows. count_behind rows first) same
-ended_writes SinkFault rows rows' first before after same so_far none = tt
-ended_writes DiskFault rows rows' first before after same so_far none = tt
-ended_writes NoMemory rows rows' first before after same so_far none = tt
-ended_writes Usage rows rows' first before after same so_far none = tt
+-- what the disk was asked to read and to write by a run that has ended
+ended_writes : (cut : Option ScriptLine) (rows first writes writes' : ℕ) → writes ≡ count_behind rows first → HasWritten cut 0 writes writes' → HasWritten cut rows first writes'
+ended_writes None rows first writes writes' so_far none = none ∙ so_far
+ended_writes (Some (Row value)) rows first writes writes' so_far none = none ∙ so_far
+ended_writes (Some (Turn count)) rows first writes writes' so_far none = tt
+ended_writes (Some Rows) rows first writes writes' so_far none = none ∙ so_far
+
+ended_reads : (cut : Option ScriptLine) (rows first reads reads' : ℕ) → reads ≡ count_behind rows first → HasRead cut 0 reads reads' → HasRead cut rows first reads'
+ended_reads None rows first reads reads' so_far none = none ∙ so_far
+ended_reads (Some (Row value)) rows first reads reads' so_far none = none ∙ so_far
+ended_reads (Some (Turn count)) rows first reads reads' so_far none = none ∙ so_far
+ended_reads (Some Rows) rows first reads reads' so_far none = tt
 
 -- a run ends
-pub RunEnded-line : {size : ℕ} {left unread given now : Option (List ℕ)} {held : List ℕ} {served : ℕ} {table : Table} {old mid : View Image} {first before : ℕ}
-    → RunSoFar size left unread given now held served table old mid first before
-    → (new : View Image) (left' now' : Option (List ℕ)) (held' : List ℕ) (end : End) (after : ℕ)
-    → EndsBy size unread now held served table left' end now' held'
+pub RunEnded-line : {size : ℕ} {left unread given now : Option (List ℕ)} {held : List ℕ} {served : ℕ} {table : Table} {old mid : View Image} {first_reads reads first_writes writes : ℕ}
+    → RunSoFar size left unread given now held served table old mid first_reads reads first_writes writes
+    → (new : View Image) (left' now' : Option (List ℕ)) (held' : List ℕ) (end : End) (reads' writes' : ℕ)
+    → Breaks (Tells mid table) size unread now held served table left' end now' held' reads reads' writes writes'
     → (EachImage mid (HasTable table) → LeavesOnly mid new (HasTable table))
-    → Unwritten end before after
-    → RunEnded size left left' end given now' held' old new first after
-RunEnded-line {size = size} {left = left} {given = given} {table = table} {first = first} {before = before} run new left' now' held' end after ends crash none =
+    → RunEnded size left left' end given now' held' old new first_reads reads' first_writes writes'
+RunEnded-line {size = size} {left = left} {given = given} {table = table} {old = old} {first_reads = first_reads} {reads = reads} {first_writes = first_writes} {writes = writes} run new left' now' held' end reads' writes' breaks crash =
     let built = run.stands.built in
     record {
       done = run.done;
-      closes = ends left given run.done run.stands;
+      answers = run.answers;
+      are_answers = run.are_answers;
+      cut = breaks.cut;
+      part = breaks.part;
+      is_part = subst (λ (table : Table). IsPartOf old.honest size table breaks.cut breaks.part) built (IsPartOf-told size table breaks.cut breaks.part (tells_still run.crash run.last) breaks.is_part);
+      closes = breaks.closes left given run.done run.answers run.stands;
       crash = and_then run.crash (crash run.last) (λ c has. HasSome-all size run.done c (subst (λ (table : Table). HasTable table c) built has));
       last = λ c now. subst (λ (table : Table). HasTable table c) built (each_now (crash run.last) c now);
-      device = ended_writes end table.acknowledged (table_after size empty_table run.done).acknowledged first before after
-          (ap (λ (table : Table). table.acknowledged) built) run.device none;
+      read = ended_reads breaks.cut (count_listed size empty_table run.done) first_reads reads reads' run.read breaks.read;
+      written = ended_writes breaks.cut (table_after size empty_table run.done).acknowledged first_writes writes writes'
+          (run.written ∙ ap (λ (table : Table). count_behind table.acknowledged first_writes) built) breaks.written;
     }

@@ -1,3 +1,4 @@
+pub mod AnswerLemmas
 pub mod BufferLemmas
 pub mod CrashLemmas
 pub mod LineLemmas
@@ -5,3 +6,4 @@ pub mod NumberLemmas
 pub mod ProgressLemmas
 pub mod RowLemmas
 pub mod RunLemmas
+pub mod StepLemmas

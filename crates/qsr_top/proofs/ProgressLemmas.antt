@@ -7,14 +7,12 @@ use Rattle.std.proofs.lemmas.Bool.Decides.{nat_tests}
 use Rattle.std.specs.Option.{option_map_or}
 use Rattle.std.specs.Prelude.{All, count_by}
 use Rattle.std.specs.List.{AllByRecursion}
-use Rattle.qsr_top.specs.declared.reply.Reply.{Reply}
 use Rattle.qsr_top.specs.declared.script_line.ScriptLine.{ScriptLine}
 use Rattle.qsr_top.specs.declared.table.Table.{Table}
 use Rattle.qsr_top.specs.Lines.{InputLine, whole, longer, lines_of}
-use Rattle.qsr_top.specs.Machine.{serve, empty_table, replies_to, table_after}
+use Rattle.qsr_top.specs.Machine.{count_listed, serve, table_after}
 use Rattle.qsr_top.specs.Progress.{IsAt}
-use Rattle.qsr_top.specs.Replies.{text_of, texts}
-use Rattle.qsr_top.specs.Run.{ends_in, replies_text}
+use Rattle.qsr_top.specs.Run.{ends_in}
 use Rattle.qsr_top.specs.Script.{said, script_from, script_of}
 
 -- the machine over one more line
@@ -23,22 +21,12 @@ pub table_after-more : (size : ℕ) (table : Table) (done : List ScriptLine) (li
 table_after-more size table [] line = refl
 table_after-more size table (first ∷ done) line = table_after-more size (serve size table first).table done line
 
-replies_to-more : (size : ℕ) (table : Table) (done : List ScriptLine) (line : ScriptLine)
-    → replies_to size table (done ++ line ∷ []) ≡ replies_to size table done ++ (serve size (table_after size table done) line).reply ∷ []
-replies_to-more size table [] line = refl
-replies_to-more size table (first ∷ done) line =
-    ap (λ replies. (serve size table first).reply ∷ replies) (replies_to-more size (serve size table first).table done line)
-
-texts-more : (replies : List Reply) (reply : Reply) → texts (replies ++ reply ∷ []) ≡ texts replies ++ text_of reply
-texts-more [] reply = append-nil (text_of reply)
-texts-more (first ∷ replies) reply =
-    ap (λ text. text_of first ++ text) (texts-more replies reply) ∙ sym (append_assoc (text_of first) (texts replies) (text_of reply))
-
-pub replies_text-more : (size : ℕ) (done : List ScriptLine) (line : ScriptLine)
-    → replies_text size (done ++ line ∷ []) ≡ replies_text size done ++ text_of (serve size (table_after size empty_table done) line).reply
-replies_text-more size done line =
-    ap texts (replies_to-more size empty_table done line)
-    ∙ texts-more (replies_to size empty_table done) (serve size (table_after size empty_table done) line).reply
+-- one line more may list more rows
+pub count_listed-more : (size : ℕ) (table : Table) (done : List ScriptLine) (line : ScriptLine)
+    → count_listed size table (done ++ line ∷ []) ≡ count_listed size table done + length (serve size (table_after size table done) line).listed
+count_listed-more size table [] line = omega arith
+count_listed-more size table (first ∷ done) line =
+    let more = count_listed-more size (serve size table first).table done line in omega (arith, more)
 
 -- the LFs of an input are the ends of its lines
 abbrev count_ended : List InputLine → ℕ

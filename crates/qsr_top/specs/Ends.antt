@@ -1,8 +1,10 @@
 -- The statuses of the process, and what is said of each end.
-use Rattle.std.specs.Prelude.{⊤, ◌≡◌, ℕ, List, [], codes}
-use Rattle.qsr_value.specs.Causes.{Rose}
+use Rattle.std.specs.Prelude.{⊤, ◌≡◌, ◌⊎◌, ℕ, List, [], Option, None, Some, codes}
+use Rattle.qsr_value.specs.Causes.{RoseByOne}
 use Rattle.qsr_top.specs.declared.end.End.{End}
 use Rattle.qsr_top.specs.declared.end.End.TheVariants.{Finished, BadLine, Usage, DiskFault, SourceFault, SinkFault, NoMemory}
+use Rattle.qsr_top.specs.declared.script_line.ScriptLine.{ScriptLine}
+use Rattle.qsr_top.specs.declared.script_line.ScriptLine.TheVariants.{Row, Turn, Rows}
 
 abbrev pub status_of : End → ℕ
 status_of Finished = 0
@@ -23,43 +25,52 @@ end_text SourceFault = codes "source fault\n"
 end_text SinkFault = []
 end_text NoMemory = codes "no memory\n"
 
--- The cause of an end of a script, by the counts of faults of its disk, its source and its sink before and after. No
--- fault of the disk is passed over: where another end is told the count stands, but where the sink has failed as well.
+-- a count that stood, or rose by one
+abbrev pub RoseOnceAtMost : ℕ → ℕ → Type 0
+RoseOnceAtMost old new = (new ≡ old) ⊎ RoseByOne old new
+
+-- The cause of an end of a script, by the counts of faults of its disk, its source and its sink before and after: one of
+-- them rose by one where its fault is told, and else each stood. So no fault is passed over; only where the sink has
+-- failed can one of the disk or the source have come before, which can't be told any more.
 abbrev pub CausedBy : End → ℕ → ℕ → ℕ → ℕ → ℕ → ℕ → Type 0
-CausedBy Finished disk disk' source source' sink sink' = disk' ≡ disk
-CausedBy BadLine disk disk' source source' sink sink' = disk' ≡ disk
-CausedBy NoMemory disk disk' source source' sink sink' = disk' ≡ disk
-CausedBy DiskFault disk disk' source source' sink sink' = Rose disk disk'
-CausedBy SourceFault disk disk' source source' sink sink' = Rose source source' × (disk' ≡ disk)
-CausedBy SinkFault disk disk' source source' sink sink' = Rose sink sink'
+CausedBy Finished disk disk' source source' sink sink' = (disk' ≡ disk) × (source' ≡ source) × (sink' ≡ sink)
+CausedBy BadLine disk disk' source source' sink sink' = (disk' ≡ disk) × (source' ≡ source) × (sink' ≡ sink)
+CausedBy NoMemory disk disk' source source' sink sink' = (disk' ≡ disk) × (source' ≡ source) × (sink' ≡ sink)
+CausedBy DiskFault disk disk' source source' sink sink' = RoseByOne disk disk' × (source' ≡ source) × (sink' ≡ sink)
+CausedBy SourceFault disk disk' source source' sink sink' = (disk' ≡ disk) × RoseByOne source source' × (sink' ≡ sink)
+CausedBy SinkFault disk disk' source source' sink sink' = RoseOnceAtMost disk disk' × RoseOnceAtMost source source' × RoseByOne sink sink'
 CausedBy Usage disk disk' source source' sink sink' = ⊥
 
--- the cause of an end where only the disk was called
-abbrev pub CausedByDisk : End → ℕ → ℕ → Type 0
-CausedByDisk Finished disk disk' = disk' ≡ disk
-CausedByDisk BadLine disk disk' = disk' ≡ disk
-CausedByDisk NoMemory disk disk' = disk' ≡ disk
-CausedByDisk DiskFault disk disk' = Rose disk disk'
-CausedByDisk SourceFault disk disk' = ⊥
-CausedByDisk SinkFault disk disk' = ⊥
-CausedByDisk Usage disk disk' = ⊥
+-- the cause of an end of a line, by the counts of the disk and the sink
+abbrev pub CausedByLine : End → ℕ → ℕ → ℕ → ℕ → Type 0
+CausedByLine Finished disk disk' sink sink' = (disk' ≡ disk) × (sink' ≡ sink)
+CausedByLine BadLine disk disk' sink sink' = (disk' ≡ disk) × (sink' ≡ sink)
+CausedByLine NoMemory disk disk' sink sink' = (disk' ≡ disk) × (sink' ≡ sink)
+CausedByLine DiskFault disk disk' sink sink' = RoseByOne disk disk' × (sink' ≡ sink)
+CausedByLine SinkFault disk disk' sink sink' = (disk' ≡ disk) × RoseByOne sink sink'
+CausedByLine SourceFault disk disk' sink sink' = ⊥
+CausedByLine Usage disk disk' sink sink' = ⊥
 
--- the cause of an end that cuts a line off: memory is wanting, or the disk has failed
-abbrev pub CutsLine : End → ℕ → ℕ → Type 0
-CutsLine NoMemory disk disk' = disk' ≡ disk
-CutsLine DiskFault disk disk' = Rose disk disk'
-CutsLine Finished disk disk' = ⊥
-CutsLine BadLine disk disk' = ⊥
-CutsLine SourceFault disk disk' = ⊥
-CutsLine SinkFault disk disk' = ⊥
-CutsLine Usage disk disk' = ⊥
+-- the cause of an end of a turn
+abbrev pub CutsTurn : End → ℕ → ℕ → Type 0
+CutsTurn NoMemory disk disk' = disk' ≡ disk
+CutsTurn DiskFault disk disk' = RoseByOne disk disk'
+CutsTurn Finished disk disk' = ⊥
+CutsTurn BadLine disk disk' = ⊥
+CutsTurn SourceFault disk disk' = ⊥
+CutsTurn SinkFault disk disk' = ⊥
+CutsTurn Usage disk disk' = ⊥
 
--- the disk's count of writes before and after the call that has ended a run so, behind the last line that was served
-abbrev pub Unwritten : End → ℕ → ℕ → Type 0
-Unwritten Finished old new = new ≡ old
-Unwritten BadLine old new = new ≡ old
-Unwritten SourceFault old new = new ≡ old
-Unwritten SinkFault old new = new ≡ old
-Unwritten DiskFault old new = ⊤
-Unwritten NoMemory old new = ⊤
-Unwritten Usage old new = ⊤
+-- Where a run has ended so: within a line, which it cut off, or between two lines.
+--   a fault of the disk comes within a line that calls it
+abbrev pub EndsIn : End → Option ScriptLine → Type 0
+EndsIn Finished cut = cut ≡ None
+EndsIn BadLine cut = cut ≡ None
+EndsIn SourceFault cut = cut ≡ None
+EndsIn DiskFault None = ⊥
+EndsIn DiskFault (Some (Row value)) = ⊥
+EndsIn DiskFault (Some (Turn count)) = ⊤
+EndsIn DiskFault (Some Rows) = ⊤
+EndsIn SinkFault cut = ⊤
+EndsIn NoMemory cut = ⊤
+EndsIn Usage cut = ⊥

@@ -1,18 +1,20 @@
 -- Where a run of a script stands between two lines.
 use Rattle.std.specs.Prelude.{⊤, ◌≡◌, ◌⊎◌, ℕ, ◌+◌, List, [], ◌∷◌, ◌++◌, length, Option, None, Some}
+use Rattle.std.specs.Io.{StartsWith}
 use Rattle.std.specs.Io.KnownBytes.{Appends}
 use Rattle.qsr_value.specs.Causes.{count_behind}
 use Rattle.disk_model.specs.Image.{Image}
 use Rattle.disk_model.specs.View.{View, EachImage, LeavesOnly}
 use Rattle.qsr_top.specs.declared.end.End.{End}
-use Rattle.qsr_top.specs.declared.end.End.TheVariants.{SinkFault}
+use Rattle.qsr_top.specs.declared.end.End.TheVariants.{Finished, BadLine, Usage, DiskFault, SourceFault, SinkFault, NoMemory}
 use Rattle.qsr_top.specs.declared.script_line.ScriptLine.{ScriptLine}
 use Rattle.qsr_top.specs.declared.table.Table.{Table}
-use Rattle.qsr_top.specs.Ends.{end_text}
+use Rattle.qsr_top.specs.Answers.{AreAnswers, IsAnswer, IsPart, IsPartOf}
+use Rattle.qsr_top.specs.Ends.{EndsIn, end_text}
 use Rattle.qsr_top.specs.Lines.{lines_of}
-use Rattle.qsr_top.specs.Machine.{empty_table, table_after}
-use Rattle.qsr_top.specs.Rows.{HasSome, HasTable}
-use Rattle.qsr_top.specs.Run.{ends_in, replies_text, whole_text, HasWritten, IsCutOff, Reads, Writes}
+use Rattle.qsr_top.specs.Machine.{count_listed, empty_table, serve, table_after}
+use Rattle.qsr_top.specs.Rows.{HasSome, HasTable, WritesRows}
+use Rattle.qsr_top.specs.Run.{ends_in, whole_text, HasRead, HasWritten, IsCutOff, Reads, Writes}
 use Rattle.qsr_top.specs.Script.{script_from, script_of}
 
 -- These lines were served of the input, and these bytes are unread.
@@ -33,69 +35,124 @@ pub record Sent (old now : Option (List ℕ)) (held text : List ℕ) : Type 0 wh
   pub given : Appends old now told
   pub whole : told ++ held ≡ text
 
--- A run stands behind these lines: by what its source had and what is unread, by what its sink had and has, by the
--- replies that are held, by the count of the lines and by the table.
-pub record Stands (size : ℕ) (left unread given now : Option (List ℕ)) (held : List ℕ) (served : ℕ) (table : Table) (done : List ScriptLine) : Type 0 where
+-- The sink was given a front of the text.
+pub record SentFront (old now : Option (List ℕ)) (text : List ℕ) : Type 0 where
+  pub front : List ℕ
+  pub given : Appends old now front
+  pub starts : StartsWith text front
+
+-- A line was answered: what was held before and the answer were sent, or are held.
+pub record Answers (tells : Type 0) (size : ℕ) (table : Table) (line : ScriptLine) (given now : Option (List ℕ)) (held held' : List ℕ) : Type 0 where
+  pub text : List ℕ
+  pub answer : IsAnswer tells size table line text
+  pub sent : Sent given now held' (held ++ text)
+
+-- what became of a text behind which a run has ended so
+abbrev pub SentUpTo : End → Option (List ℕ) → Option (List ℕ) → List ℕ → List ℕ → Type 0
+SentUpTo NoMemory given now held text = Sent given now held text
+SentUpTo DiskFault given now held text = Sent given now held text
+SentUpTo SinkFault given now held text = SentFront given now text
+SentUpTo Finished given now held text = ⊥
+SentUpTo BadLine given now held text = ⊥
+SentUpTo SourceFault given now held text = ⊥
+SentUpTo Usage given now held text = ⊥
+
+-- A line was cut off so: what was held before and a part of the answer were sent, or are held.
+pub record CutsOff (tells : Type 0) (size : ℕ) (table : Table) (line : ScriptLine) (end : End) (given now : Option (List ℕ)) (held held' : List ℕ) : Type 0 where
+  pub ends : EndsIn end (Some line)
+  pub text : List ℕ
+  pub part : IsPart tells size table line text
+  pub sent : SentUpTo end given now held' (held ++ text)
+
+-- A run stands behind these lines, which it has answered with this text: by what its source had and what is unread, by
+-- what its sink had and has, by the answers that are held, by the count of the lines and by the table.
+pub record Stands (size : ℕ) (left unread given now : Option (List ℕ)) (held : List ℕ) (served : ℕ) (table : Table) (done : List ScriptLine) (answers : List ℕ) : Type 0 where
   pub count : length done ≡ served
   pub built : table ≡ table_after size empty_table done
   pub input : IsAtTold left unread done
-  pub sent : Sent given now held (replies_text size done)
+  pub sent : Sent given now held answers
 
 -- The text of a run that has ended so, but for what is said of the end, was sent or is held.
-pub record IsSaid (size : ℕ) (end : End) (given now : Option (List ℕ)) (held : List ℕ) (done : List ScriptLine) : Type 0 where
+pub record IsSaid (end : End) (given now : Option (List ℕ)) (held : List ℕ) (done : List ScriptLine) (said : List ℕ) : Type 0 where
   pub text : List ℕ
   pub sent : Sent given now held text
-  pub whole : text ++ end_text end ≡ whole_text size done end
+  pub whole : text ++ end_text end ≡ whole_text done said end
 
 -- The sink has cut off the text of a run.
-pub record IsCut (size : ℕ) (end : End) (given now : Option (List ℕ)) (done : List ScriptLine) : Type 0 where
+pub record IsCut (left left' : Option (List ℕ)) (end : End) (given now : Option (List ℕ)) (done : List ScriptLine) (cut : Option ScriptLine) (said : List ℕ) : Type 0 where
   pub is : end ≡ SinkFault
   pub front : List ℕ
   pub gives : Appends given now front
-  pub cut : IsCutOff size done front
+  pub cut_off : IsCutOff left left' done cut said front
 
--- A run has ended so behind these lines, and what is said of the end is not written yet.
-pub record Closes (size : ℕ) (left unread : Option (List ℕ)) (end : End) (given now : Option (List ℕ)) (held : List ℕ) (done : List ScriptLine) : Type 0 where
-  pub reads : Reads left unread done end
-  pub says : IsSaid size end given now held done ⊎ IsCut size end given now done
+-- A run has ended so behind these lines, perhaps within a further one, and has answered this text. What is said of the
+-- end is not written yet.
+pub record Closes (left unread : Option (List ℕ)) (end : End) (given now : Option (List ℕ)) (held : List ℕ) (done : List ScriptLine) (cut : Option ScriptLine) (said : List ℕ) : Type 0 where
+  pub ends : EndsIn end cut
+  pub reads : Reads left unread done cut end
+  pub says : IsSaid end given now held done said ⊎ IsCut left unread end given now done cut said
 
--- A run has ended so behind these lines, and all is written that is said of it.
-pub record IsClosed (size : ℕ) (left unread : Option (List ℕ)) (end : End) (given now : Option (List ℕ)) (done : List ScriptLine) : Type 0 where
-  pub reads : Reads left unread done end
+-- The same, where all is written that is said of it.
+pub record IsClosed (left unread : Option (List ℕ)) (end : End) (given now : Option (List ℕ)) (done : List ScriptLine) (cut : Option ScriptLine) (said : List ℕ) : Type 0 where
+  pub ends : EndsIn end cut
+  pub reads : Reads left unread done cut end
   pub text : List ℕ
   pub gives : Appends given now text
-  pub writes : Writes size done end text
+  pub writes : Writes left unread done cut said end text
 
 -- wherever the run has come to stand, it stands behind the same lines still
 abbrev pub GoesOn : ℕ → Option (List ℕ) → Option (List ℕ) → List ℕ → ℕ → Table → Option (List ℕ) → Option (List ℕ) → List ℕ → ℕ → Table → Type 0
 GoesOn size unread given held served table unread' given' held' served' table' =
-    (left first : Option (List ℕ)) (done : List ScriptLine) → Stands size left unread first given held served table done
-    → Stands size left unread' first given' held' served' table' done
+    (left first : Option (List ℕ)) (done : List ScriptLine) (answers : List ℕ) → Stands size left unread first given held served table done answers
+    → Stands size left unread' first given' held' served' table' done answers
 
--- wherever the run has come to stand, it stands one line further
-abbrev pub Advances : ℕ → Option (List ℕ) → Option (List ℕ) → List ℕ → ℕ → Table → Option (List ℕ) → Option (List ℕ) → List ℕ → ℕ → Table → Type 0
-Advances size unread given held served table unread' given' held' served' table' =
-    (left first : Option (List ℕ)) (done : List ScriptLine) → Stands size left unread first given held served table done
-    → (line : ScriptLine) × Stands size left unread' first given' held' served' table' (done ++ line ∷ [])
+-- Wherever the run has come to stand, it stands one line further, and the device was called as that line asks.
+pub record Advances (tells : Type 0) (size : ℕ) (unread given : Option (List ℕ)) (held : List ℕ) (served : ℕ) (table : Table) (unread' given' : Option (List ℕ)) (held' : List ℕ) (served' : ℕ) (table' : Table) (reads reads' writes writes' : ℕ) : Type 0 where
+  pub line : ScriptLine
+  pub text : List ℕ
+  pub answer : IsAnswer tells size table line text
+  pub stands : (left first : Option (List ℕ)) (done : List ScriptLine) (answers : List ℕ) → Stands size left unread first given held served table done answers
+      → Stands size left unread' first given' held' served' table' (done ++ line ∷ []) (answers ++ text)
+  pub read : reads' ≡ count_behind (length (serve size table line).listed) reads
+  pub written : WritesRows table.acknowledged table'.acknowledged writes writes'
 
 -- wherever the run has come to stand, it has ended so
-abbrev pub EndsBy : ℕ → Option (List ℕ) → Option (List ℕ) → List ℕ → ℕ → Table → Option (List ℕ) → End → Option (List ℕ) → List ℕ → Type 0
-EndsBy size unread given held served table left' end given' held' =
-    (left first : Option (List ℕ)) (done : List ScriptLine) → Stands size left unread first given held served table done
-    → Closes size left left' end first given' held' done
+abbrev pub EndsBy : ℕ → Option (List ℕ) → Option (List ℕ) → List ℕ → ℕ → Table → Option (List ℕ) → Option ScriptLine → List ℕ → End → Option (List ℕ) → List ℕ → Type 0
+EndsBy size unread given held served table left' cut part end given' held' =
+    (left first : Option (List ℕ)) (done : List ScriptLine) (answers : List ℕ) → Stands size left unread first given held served table done answers
+    → Closes left left' end first given' held' done cut (answers ++ part)
+
+-- Wherever the run has come to stand, it has ended so, and the device was called as far as the line was served that was
+-- cut off.
+pub record Breaks (tells : Type 0) (size : ℕ) (unread given : Option (List ℕ)) (held : List ℕ) (served : ℕ) (table : Table) (left' : Option (List ℕ)) (end : End) (given' : Option (List ℕ)) (held' : List ℕ) (reads reads' writes writes' : ℕ) : Type 0 where
+  pub cut : Option ScriptLine
+  pub part : List ℕ
+  pub is_part : IsPartOf tells size table cut part
+  pub closes : EndsBy size unread given held served table left' cut part end given' held'
+  pub read : HasRead cut 0 reads reads'
+  pub written : HasWritten cut 0 writes writes'
 
 -- A run so far, from its start: it stands behind some lines, and a crash at any moment leaves what it has acknowledged.
-pub record RunSoFar (size : ℕ) (left unread given now : Option (List ℕ)) (held : List ℕ) (served : ℕ) (table : Table) (disk_old disk_now : View Image) (writes_old writes_now : ℕ) : Type 0 where
+pub record RunSoFar (size : ℕ) (left unread given now : Option (List ℕ)) (held : List ℕ) (served : ℕ) (table : Table) (disk_old disk_now : View Image) (reads_old reads_now writes_old writes_now : ℕ) : Type 0 where
   pub done : List ScriptLine
-  pub stands : Stands size left unread given now held served table done
+  pub answers : List ℕ
+  pub are_answers : AreAnswers disk_old.honest size empty_table done answers
+  pub stands : Stands size left unread given now held served table done answers
   pub crash : LeavesOnly disk_old disk_now (HasSome size done)
   pub last : EachImage disk_now (HasTable table)
-  pub device : writes_now ≡ count_behind table.acknowledged writes_old
+  pub read : reads_now ≡ count_behind (count_listed size empty_table done) reads_old
+  pub written : writes_now ≡ count_behind table.acknowledged writes_old
 
 -- A run that has ended so, but for what is said of the end.
-pub record RunEnded (size : ℕ) (left unread : Option (List ℕ)) (end : End) (given now : Option (List ℕ)) (held : List ℕ) (disk_old disk_now : View Image) (writes_old writes_now : ℕ) : Type 0 where
+pub record RunEnded (size : ℕ) (left unread : Option (List ℕ)) (end : End) (given now : Option (List ℕ)) (held : List ℕ) (disk_old disk_now : View Image) (reads_old reads_now writes_old writes_now : ℕ) : Type 0 where
   pub done : List ScriptLine
-  pub closes : Closes size left unread end given now held done
+  pub answers : List ℕ
+  pub are_answers : AreAnswers disk_old.honest size empty_table done answers
+  pub cut : Option ScriptLine
+  pub part : List ℕ
+  pub is_part : IsPartOf disk_old.honest size (table_after size empty_table done) cut part
+  pub closes : Closes left unread end given now held done cut (answers ++ part)
   pub crash : LeavesOnly disk_old disk_now (HasSome size done)
   pub last : EachImage disk_now (HasTable (table_after size empty_table done))
-  pub device : HasWritten end (table_after size empty_table done).acknowledged writes_old writes_now
+  pub read : HasRead cut (count_listed size empty_table done) reads_old reads_now
+  pub written : HasWritten cut (table_after size empty_table done).acknowledged writes_old writes_now

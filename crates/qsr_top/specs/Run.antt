@@ -1,5 +1,5 @@
 -- What a run of a script has read, written and left on the disk, by how it ended.
-use Rattle.std.specs.Prelude.{⊤, ◌≡◌, ℕ, ◌+◌, ◌<◌, ◌==◌, List, [], ◌++◌, length, take, Option, None, Some, count_by}
+use Rattle.std.specs.Prelude.{⊤, ◌≡◌, ℕ, ◌+◌, ◌<◌, ◌==◌, List, [], ◌∷◌, ◌++◌, length, take, Option, None, Some, count_by}
 use Rattle.std.specs.Io.{StartsWith}
 use Rattle.std.specs.Io.KnownBytes.{Appends}
 use Rattle.qsr_value.specs.Causes.{count_behind}
@@ -9,10 +9,12 @@ use Rattle.qsr_top.specs.declared.end.End.{End}
 use Rattle.qsr_top.specs.declared.end.End.TheVariants.{Finished, BadLine, Usage, DiskFault, SourceFault, SinkFault, NoMemory}
 use Rattle.qsr_top.specs.declared.reply.Reply.TheVariants.{BadLine as BadLineReply}
 use Rattle.qsr_top.specs.declared.script_line.ScriptLine.{ScriptLine}
-use Rattle.qsr_top.specs.Ends.{end_text}
+use Rattle.qsr_top.specs.declared.script_line.ScriptLine.TheVariants.{Row, Turn, Rows}
+use Rattle.qsr_top.specs.Answers.{AreAnswers, IsPartOf}
+use Rattle.qsr_top.specs.Ends.{EndsIn, end_text}
 use Rattle.qsr_top.specs.Lines.{lines_of}
-use Rattle.qsr_top.specs.Machine.{empty_table, replies_to, table_after}
-use Rattle.qsr_top.specs.Replies.{text_of, texts}
+use Rattle.qsr_top.specs.Machine.{count_listed, empty_table, table_after}
+use Rattle.qsr_top.specs.Replies.{text_of}
 use Rattle.qsr_top.specs.Rows.{HasSome, HasTable}
 use Rattle.qsr_top.specs.Script.{script_of}
 
@@ -33,17 +35,22 @@ ReadsTo bytes left done SinkFault = ⊤
 ReadsTo bytes left done NoMemory = ⊤
 ReadsTo bytes left done Usage = ⊥
 
--- the lines that a run has served, by the bytes that its source had and has left, where it tells them
-abbrev pub Reads : Option (List ℕ) → Option (List ℕ) → List ScriptLine → End → Type 0
-Reads None left done end = ⊤
-Reads (Some bytes) None done end = ⊥
-Reads (Some bytes) (Some left) done end = (take (length done) (script_of bytes) ≡ done) × ReadsTo bytes left done end
+-- the lines that a run has come to: those that were served, and the one that it cut off
+abbrev pub lines_come_to : List ScriptLine → Option ScriptLine → List ScriptLine
+lines_come_to done None = done
+lines_come_to done (Some line) = done ++ line ∷ []
 
--- the text of the replies to these lines
-abbrev pub replies_text : ℕ → List ScriptLine → List ℕ
-replies_text size done = texts (replies_to size empty_table done)
+-- these are the first lines of the script
+abbrev pub IsFront : List ScriptLine → List ScriptLine → Type 0
+IsFront lines script = take (length lines) script ≡ lines
 
--- what a run says behind the replies
+-- the lines that a run has come to, by the bytes that its source had and has left, where it tells them
+abbrev pub Reads : Option (List ℕ) → Option (List ℕ) → List ScriptLine → Option ScriptLine → End → Type 0
+Reads None left done cut end = ⊤
+Reads (Some bytes) None done cut end = ⊥
+Reads (Some bytes) (Some left) done cut end = IsFront (lines_come_to done cut) (script_of bytes) × ReadsTo bytes left done end
+
+-- what a run says behind the answers
 abbrev pub last_text : List ScriptLine → End → List ℕ
 last_text done BadLine = text_of (BadLineReply (length done + 1))
 last_text done Finished = end_text Finished
@@ -53,46 +60,60 @@ last_text done SourceFault = end_text SourceFault
 last_text done SinkFault = end_text SinkFault
 last_text done NoMemory = end_text NoMemory
 
--- all that a run says that has served these lines and ended so
-abbrev pub whole_text : ℕ → List ScriptLine → End → List ℕ
-whole_text size done end = replies_text size done ++ last_text done end
+-- all that a run says that has served these lines, answered this text and ended so
+abbrev pub whole_text : List ScriptLine → List ℕ → End → List ℕ
+whole_text done said end = said ++ last_text done end
 
--- The sink was given a front of what a run says.
-pub record IsCutOff (size : ℕ) (done : List ScriptLine) (text : List ℕ) : Type 0 where
+-- The sink was given a front of what a run says that has read so.
+pub record IsCutOff (left left' : Option (List ℕ)) (done : List ScriptLine) (cut : Option ScriptLine) (said text : List ℕ) : Type 0 where
   pub end : End
-  pub front : StartsWith (whole_text size done end) text
+  pub ends : EndsIn end cut
+  pub reads : Reads left left' done cut end
+  pub front : StartsWith (whole_text done said end) text
 
--- what the sink was given by a run that has served these lines and ended so
-abbrev pub Writes : ℕ → List ScriptLine → End → List ℕ → Type 0
-Writes size done SinkFault text = IsCutOff size done text
-Writes size done Finished text = text ≡ whole_text size done Finished
-Writes size done BadLine text = text ≡ whole_text size done BadLine
-Writes size done Usage text = text ≡ whole_text size done Usage
-Writes size done DiskFault text = text ≡ whole_text size done DiskFault
-Writes size done SourceFault text = text ≡ whole_text size done SourceFault
-Writes size done NoMemory text = text ≡ whole_text size done NoMemory
+-- what the sink was given by a run that has read so, served these lines, answered this text and ended so
+abbrev pub Writes : Option (List ℕ) → Option (List ℕ) → List ScriptLine → Option ScriptLine → List ℕ → End → List ℕ → Type 0
+Writes left left' done cut said SinkFault text = IsCutOff left left' done cut said text
+Writes left left' done cut said Finished text = text ≡ whole_text done said Finished
+Writes left left' done cut said BadLine text = text ≡ whole_text done said BadLine
+Writes left left' done cut said Usage text = text ≡ whole_text done said Usage
+Writes left left' done cut said DiskFault text = text ≡ whole_text done said DiskFault
+Writes left left' done cut said SourceFault text = text ≡ whole_text done said SourceFault
+Writes left left' done cut said NoMemory text = text ≡ whole_text done said NoMemory
 
--- The device writes of a run that has ended so: one for each row that is acknowledged. Where a line was cut off or the
--- sink failed, they are left open.
-abbrev pub HasWritten : End → ℕ → ℕ → ℕ → Type 0
-HasWritten Finished rows old new = new ≡ count_behind rows old
-HasWritten BadLine rows old new = new ≡ count_behind rows old
-HasWritten SourceFault rows old new = new ≡ count_behind rows old
-HasWritten DiskFault rows old new = ⊤
-HasWritten SinkFault rows old new = ⊤
-HasWritten NoMemory rows old new = ⊤
-HasWritten Usage rows old new = ⊤
+-- The disk's count of writes: one write for each row that is acknowledged. Within a `turn` that was cut off it is open.
+abbrev pub HasWritten : Option ScriptLine → ℕ → ℕ → ℕ → Type 0
+HasWritten None rows old new = new ≡ count_behind rows old
+HasWritten (Some (Row value)) rows old new = new ≡ count_behind rows old
+HasWritten (Some (Turn count)) rows old new = ⊤
+HasWritten (Some Rows) rows old new = new ≡ count_behind rows old
 
--- A run of a script over a disk of so many bytes.
-pub record Ran (size : ℕ) (left_old left_new given_old given_new : Option (List ℕ)) (disk_old disk_new : View Image) (writes_old writes_new : ℕ) (end : End) : Type 0 where
-  -- the lines that were served
+-- The disk's count of reads: one read for each row that was listed. Within a `rows` that was cut off it is open.
+abbrev pub HasRead : Option ScriptLine → ℕ → ℕ → ℕ → Type 0
+HasRead None rows old new = new ≡ count_behind rows old
+HasRead (Some (Row value)) rows old new = new ≡ count_behind rows old
+HasRead (Some (Turn count)) rows old new = new ≡ count_behind rows old
+HasRead (Some Rows) rows old new = ⊤
+
+-- A run of a script over a disk of so many bytes, by what the source had and has left, what the sink had been given and
+-- has, the disk, and the disk's counts of reads and writes.
+pub record Ran (size : ℕ) (left_old left_new given_old given_new : Option (List ℕ)) (disk_old disk_new : View Image) (reads_old reads_new writes_old writes_new : ℕ) (end : End) : Type 0 where
+  -- the lines that were served, and the answers to them
   pub done : List ScriptLine
-  pub reads : Reads left_old left_new done end
+  pub answers : List ℕ
+  pub are_answers : AreAnswers disk_old.honest size empty_table done answers
+  -- the line that was cut off, if one was, and the part of its answer
+  pub cut : Option ScriptLine
+  pub part : List ℕ
+  pub is_part : IsPartOf disk_old.honest size (table_after size empty_table done) cut part
+  pub ends : EndsIn end cut
+  pub reads : Reads left_old left_new done cut end
   pub text : List ℕ
   pub gives : Appends given_old given_new text
-  pub writes : Writes size done end text
+  pub writes : Writes left_old left_new done cut (answers ++ part) end text
   -- a crash at any moment leaves the rows that are acknowledged behind some of the lines
   pub crash : LeavesOnly disk_old disk_new (HasSome size done)
   -- and a crash now those that are acknowledged behind all
   pub last : EachImage disk_new (HasTable (table_after size empty_table done))
-  pub device : HasWritten end (table_after size empty_table done).acknowledged writes_old writes_new
+  pub written : HasWritten cut (table_after size empty_table done).acknowledged writes_old writes_new
+  pub read : HasRead cut (count_listed size empty_table done) reads_old reads_new

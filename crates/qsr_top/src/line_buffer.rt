@@ -1,6 +1,6 @@
 ghost use Rattle.std.specs.Prelude.{◌≡◌, ◌≢◌, ℕ, ◌+◌, ◌-◌, ◌<◌, ◌≤◌, [], ◌++◌, List, length, take, drop, slice_index, vec_len, All, IfOk, IfSome, IfNone, OnOk, OnErr};
 ghost use Rattle.std.specs.Io.KnownBytes.{Consumes, IsAtEnd, Keeps, prepend_known};
-ghost use Rattle.qsr_value.specs.Causes.{CountsFault, HasCause};
+ghost use Rattle.qsr_value.specs.Causes.{CountsFault};
 ghost use Rattle.qsr_top.specs.NextLine.{IsHeld, IsNext, IsNextTold, IsPartial};
 ghost use Rattle.qsr_top.specs.declared.line_buffer.TheConstants.{MAX_LINE};
 
@@ -94,7 +94,7 @@ impl LineBuffer {
         ensures found { IfOk result (λ next. IsNextTold next self.new (S.left source.new)) }
         ensures same { Keeps (prepend_known self.old (S.left source.old)) (prepend_known self.new (S.left source.new)) }
         ensures err { OnErr result (IsPartial self.new) }
-        ensures cause { HasCause result (S.faults_of source.old) (S.faults_of source.new) }
+        ensures cause { CountsFault result (S.faults_of source.old) (S.faults_of source.new) }
     {
         loop {
             let came = self.fill(source)?;

@@ -9,6 +9,8 @@ pub enum Reply {
     Paused { rows: u64 },
     /// So many rows are acknowledged, and these are all.
     Done { rows: u64 },
+    /// So many rows were listed.
+    Listed { rows: u64 },
     /// The line of this number, counted from 1, is none of a script's. It ends the script.
     BadLine { number: u64 },
 }

@@ -1,15 +1,16 @@
-ghost use Rattle.std.specs.Prelude.{◌≡◌, ◌⊎◌, ℕ, ◌+◌, ◌*◌, ◌<◌, ◌≤◌, List, [], ◌++◌, Option, Some, length, take, drop, IfOk, IfErr, IfSome, OnOk, OnErr, OnSome};
+ghost use Rattle.std.specs.Prelude.{◌≡◌, ◌≢◌, ◌⊎◌, ℕ, ◌+◌, ◌*◌, ◌<◌, ◌≤◌, ℤ, List, [], ◌∷◌, ◌++◌, Option, None, Some, length, take, drop, IfOk, IfErr, IfSome, OnOk, OnErr, OnSome};
 ghost use Rattle.std.specs.Io.KnownBytes.{Appends, prepend_known};
-ghost use Rattle.disk_model.specs.View.{EachImage, LeavesOnly};
-ghost use Rattle.qsr_value.specs.Causes.{Rose};
-ghost use Rattle.qsr_top.specs.Ends.{CausedBy, CausedByDisk, CutsLine, Unwritten};
+ghost use Rattle.disk_model.specs.View.{EachImage, LeavesOnly, Stays};
+ghost use Rattle.qsr_value.specs.Causes.{RoseByOne, count_behind};
+ghost use Rattle.qsr_top.specs.Answers.{Tells};
+ghost use Rattle.qsr_top.specs.Ends.{CausedBy, CausedByLine, CutsTurn};
 ghost use Rattle.qsr_top.specs.Lines.{whole};
 ghost use Rattle.qsr_top.specs.Machine.{empty_table, serve};
 ghost use Rattle.qsr_top.specs.NextLine.{BeginsWholeTold, IsHeld, IsNextTold, IsPartial};
-ghost use Rattle.qsr_top.specs.Progress.{Advances, Closes, EndsBy, GoesOn, IsClosed, RunEnded};
-ghost use Rattle.qsr_top.specs.Replies.{text_of};
+ghost use Rattle.qsr_top.specs.Progress.{Advances, Answers, Breaks, Closes, CutsOff, EndsBy, GoesOn, IsClosed, RunEnded, Sent, SentUpTo};
+ghost use Rattle.qsr_top.specs.Replies.{row_text, rows_text, text_of};
 ghost use Rattle.qsr_top.specs.Rows.{HasTable, WritesRows};
-ghost use Rattle.qsr_top.specs.Run.{Ran};
+ghost use Rattle.qsr_top.specs.Run.{HasRead, HasWritten, Ran};
 ghost use Rattle.qsr_top.specs.Script.{BeginsBadTold, said};
 ghost use Rattle.qsr_top.specs.declared.script.TheConstants.{MAX_LINES};
 ghost use Rattle.qsr_top.specs.declared.turns.TheConstants.{ROW_BYTES};
@@ -21,7 +22,7 @@ use crate::replies::Replies;
 use crate::reply::Reply;
 use crate::script_line::{ScriptLine, line_of, without_cr};
 use crate::table::Table;
-use crate::turns::{ROW_BYTES, turn};
+use crate::turns::{ROW_BYTES, read_row, turn};
 use disk_model::Disk;
 use qsr_io::{Failed, Sink, Source, put_all};
 use qsr_value::{ListOf, Memory};
@@ -85,12 +86,12 @@ impl Script {
         ensures table { OnOk result (self.new.table ≡ (serve self.old.size self.old.table (ScriptLine.Turn count)).table) }
         ensures reply { OnOk result (self.new.replies ≡ self.old.replies ++ text_of (serve self.old.size self.old.table (ScriptLine.Turn count)).reply) }
         ensures err { OnErr result (self.new.replies ≡ self.old.replies) }
-        ensures cause { IfErr result (λ end. CutsLine end (D.faults_of disk.old) (D.faults_of disk.new)) }
+        ensures cause { IfErr result (λ end. CutsTurn end (D.faults_of disk.old) (D.faults_of disk.new)) }
         ensures crash { EachImage (D.view disk.old) (HasTable self.old.table) → LeavesOnly (D.view disk.old) (D.view disk.new) (HasTable self.old.table) }
         ensures last { OnOk result (EachImage (D.view disk.old) (HasTable self.old.table) → EachImage (D.view disk.new) (HasTable self.new.table)) }
         ensures unfailed { OnOk result (D.faults_of disk.new ≡ D.faults_of disk.old) }
+        ensures reads { D.reads_of disk.new ≡ D.reads_of disk.old }
         ensures writes { OnOk result (WritesRows self.old.table.acknowledged self.new.table.acknowledged (D.writes_of disk.old) (D.writes_of disk.new)) }
-        ensures faults { D.faults_of disk.old ≤ D.faults_of disk.new }
         ensures size { D.size_of disk.new ≡ D.size_of disk.old }
         ensures same { (self.new.size ≡ self.old.size) × (self.new.served ≡ self.old.served) × (self.new.input ≡ self.old.input) }
     {
@@ -113,18 +114,83 @@ impl Script {
         }
     }
 
-    /// Does what a line says, and holds the reply to it.
-    fn serve<D: Disk>(&mut self, line: ScriptLine, disk: &mut D) -> Result<(), End>
+    /// Holds the line of a row that is listed. What is held goes to the sink where it has become long.
+    fn list_row<K: Sink>(&mut self, value: i64, sink: &mut K) -> Result<(), End>
+        ensures ok { OnOk result (Sent (K.given sink.old) (K.given sink.new) self.new.replies (self.old.replies ++ row_text value)) }
+        ensures err { IfErr result (λ end. (rows : List ℤ) × ((rows ≡ []) ⊎ (rows ≡ value ∷ [])) × SentUpTo end (K.given sink.old) (K.given sink.new) self.new.replies (self.old.replies ++ rows_text rows)) }
+        ensures cause { IfErr result (λ end. (disk : ℕ) → CausedByLine end disk disk (K.faults_of sink.old) (K.faults_of sink.new)) }
+        ensures unfailed { OnOk result (K.faults_of sink.new ≡ K.faults_of sink.old) }
+        ensures same { (self.new.size ≡ self.old.size) × (self.new.table ≡ self.old.table) × (self.new.served ≡ self.old.served) × (self.new.input ≡ self.old.input) }
+    {
+        let Ok(()) = self.replies.push_row(value) else {
+            return Err(End::NoMemory);
+        };
+        if !self.replies.are_long() {
+            return Ok(());
+        }
+        match self.replies.send(sink) {
+            Ok(()) => Ok(()),
+            Err(Failed) => Err(End::SinkFault),
+        }
+    }
+
+    /// Lists the acknowledged rows as the disk has them, and then says how many they are.
+    fn list_rows<D: Disk, K: Sink>(&mut self, disk: &mut D, sink: &mut K) -> Result<(), End>
         requires { self.old.size ≤ D.size_of disk.old }
+        ensures ok { OnOk result (Answers (Tells (D.view disk.old) self.old.table) self.old.size self.old.table ScriptLine.Rows
+            (K.given sink.old) (K.given sink.new) self.old.replies self.new.replies) }
+        ensures err { IfErr result (λ end. CutsOff (Tells (D.view disk.old) self.old.table) self.old.size self.old.table ScriptLine.Rows end
+            (K.given sink.old) (K.given sink.new) self.old.replies self.new.replies) }
+        ensures cause { IfErr result (λ end. CausedByLine end (D.faults_of disk.old) (D.faults_of disk.new) (K.faults_of sink.old) (K.faults_of sink.new)) }
+        ensures stays { Stays (D.view disk.old) (D.view disk.new) }
+        ensures unfailed { OnOk result ((D.faults_of disk.new ≡ D.faults_of disk.old) × (K.faults_of sink.new ≡ K.faults_of sink.old)) }
+        ensures reads { OnOk result (D.reads_of disk.new ≡ count_behind self.old.table.acknowledged (D.reads_of disk.old)) }
+        ensures writes { D.writes_of disk.new ≡ D.writes_of disk.old }
+        ensures syncs { D.syncs_of disk.new ≡ D.syncs_of disk.old }
+        ensures size { D.size_of disk.new ≡ D.size_of disk.old }
+        ensures same { (self.new.size ≡ self.old.size) × (self.new.table ≡ self.old.table) × (self.new.served ≡ self.old.served) × (self.new.input ≡ self.old.input) }
+    {
+        let rows = self.table.acknowledged;
+        for place in 0..rows {
+            // The table's row is a number of 64 bits, as what is read is.
+            let _row = *self.table.rows.get(place);
+            let Ok(value) = read_row(disk, place) else {
+                return Err(End::DiskFault);
+            };
+            if let Err(end) = self.list_row(value, sink) {
+                return Err(end);
+            }
+        }
+        match self
+            .replies
+            .push(self.alloc, Reply::Listed { rows: rows as u64 })
+        {
+            Ok(()) => Ok(()),
+            Err(Memory) => Err(End::NoMemory),
+        }
+    }
+
+    /// Does what a line says, and holds the answer to it.
+    fn serve<D: Disk, K: Sink>(
+        &mut self,
+        line: ScriptLine,
+        disk: &mut D,
+        sink: &mut K,
+    ) -> Result<(), End>
+        requires { self.old.size ≤ D.size_of disk.old }
+        ensures ok { OnOk result (Answers (Tells (D.view disk.old) self.old.table) self.old.size self.old.table line
+            (K.given sink.old) (K.given sink.new) self.old.replies self.new.replies) }
         ensures table { OnOk result (self.new.table ≡ (serve self.old.size self.old.table line).table) }
-        ensures reply { OnOk result (self.new.replies ≡ self.old.replies ++ text_of (serve self.old.size self.old.table line).reply) }
-        ensures err { OnErr result (self.new.replies ≡ self.old.replies) }
-        ensures cause { IfErr result (λ end. CutsLine end (D.faults_of disk.old) (D.faults_of disk.new)) }
+        ensures err { IfErr result (λ end. CutsOff (Tells (D.view disk.old) self.old.table) self.old.size self.old.table line end
+            (K.given sink.old) (K.given sink.new) self.old.replies self.new.replies) }
+        ensures cause { IfErr result (λ end. CausedByLine end (D.faults_of disk.old) (D.faults_of disk.new) (K.faults_of sink.old) (K.faults_of sink.new)) }
         ensures crash { EachImage (D.view disk.old) (HasTable self.old.table) → LeavesOnly (D.view disk.old) (D.view disk.new) (HasTable self.old.table) }
         ensures last { OnOk result (EachImage (D.view disk.old) (HasTable self.old.table) → EachImage (D.view disk.new) (HasTable self.new.table)) }
-        ensures unfailed { OnOk result (D.faults_of disk.new ≡ D.faults_of disk.old) }
+        ensures unfailed { OnOk result ((D.faults_of disk.new ≡ D.faults_of disk.old) × (K.faults_of sink.new ≡ K.faults_of sink.old)) }
+        ensures reads { OnOk result (D.reads_of disk.new ≡ count_behind (length (serve self.old.size self.old.table line).listed) (D.reads_of disk.old)) }
         ensures writes { OnOk result (WritesRows self.old.table.acknowledged self.new.table.acknowledged (D.writes_of disk.old) (D.writes_of disk.new)) }
-        ensures faults { D.faults_of disk.old ≤ D.faults_of disk.new }
+        ensures cut_reads { OnErr result (HasRead (Some line) 0 (D.reads_of disk.old) (D.reads_of disk.new)) }
+        ensures cut_writes { OnErr result (HasWritten (Some line) 0 (D.writes_of disk.old) (D.writes_of disk.new)) }
         ensures size { D.size_of disk.new ≡ D.size_of disk.old }
         ensures same { (self.new.size ≡ self.old.size) × (self.new.served ≡ self.old.served) × (self.new.input ≡ self.old.input) }
     {
@@ -133,7 +199,11 @@ impl Script {
                 Ok(()) => Ok(()),
                 Err(Memory) => Err(End::NoMemory),
             },
-            ScriptLine::Turn { count } => self.take_turn(count, disk),
+            ScriptLine::Turn { count } => match self.take_turn(count, disk) {
+                Ok(()) => Ok(()),
+                Err(end) => Err(end),
+            },
+            ScriptLine::Rows => self.list_rows(disk, sink),
         }
     }
 
@@ -151,29 +221,38 @@ impl Script {
     }
 
     /// Serves the line of `len` bytes that the held input begins with.
-    fn take_line<D: Disk>(&mut self, len: usize, line: ScriptLine, disk: &mut D) -> Result<(), End>
+    fn take_line<D: Disk, K: Sink>(
+        &mut self,
+        len: usize,
+        line: ScriptLine,
+        disk: &mut D,
+        sink: &mut K,
+    ) -> Result<(), End>
         requires within { len < length self.old.input }
         requires short { len ≤ MAX_LINE }
         requires count { self.old.served < MAX_LINES }
         requires size { self.old.size ≤ D.size_of disk.old }
-        ensures ok { OnOk result ((left given : _) → BeginsWholeTold len self.old.input left
+        ensures ok { OnOk result ((left : _) → BeginsWholeTold len self.old.input left
             → said (self.old.served + 1) (whole (take len self.old.input)) ≡ Some line
-            → Advances self.old.size (prepend_known self.old.input left) given self.old.replies self.old.served self.old.table
-            (prepend_known self.new.input left) given self.new.replies self.new.served self.new.table) }
-        ensures err { IfErr result (λ end. (left given : _) → EndsBy self.old.size (prepend_known self.old.input left) given self.old.replies
-            self.old.served self.old.table left end given self.new.replies) }
-        ensures cause { IfErr result (λ end. CutsLine end (D.faults_of disk.old) (D.faults_of disk.new)) }
+            → Advances (Tells (D.view disk.old) self.old.table) self.old.size
+            (prepend_known self.old.input left) (K.given sink.old) self.old.replies self.old.served self.old.table
+            (prepend_known self.new.input left) (K.given sink.new) self.new.replies self.new.served self.new.table
+            (D.reads_of disk.old) (D.reads_of disk.new) (D.writes_of disk.old) (D.writes_of disk.new)) }
+        ensures err { IfErr result (λ end. (left : _) → BeginsWholeTold len self.old.input left
+            → said (self.old.served + 1) (whole (take len self.old.input)) ≡ Some line
+            → Breaks (Tells (D.view disk.old) self.old.table) self.old.size
+            (prepend_known self.old.input left) (K.given sink.old) self.old.replies self.old.served self.old.table
+            left end (K.given sink.new) self.new.replies
+            (D.reads_of disk.old) (D.reads_of disk.new) (D.writes_of disk.old) (D.writes_of disk.new)) }
+        ensures cause { IfErr result (λ end. CausedByLine end (D.faults_of disk.old) (D.faults_of disk.new) (K.faults_of sink.old) (K.faults_of sink.new)) }
         ensures crash { EachImage (D.view disk.old) (HasTable self.old.table) → LeavesOnly (D.view disk.old) (D.view disk.new) (HasTable self.old.table) }
         ensures last { OnOk result (EachImage (D.view disk.old) (HasTable self.old.table) → EachImage (D.view disk.new) (HasTable self.new.table)) }
-        ensures unfailed { OnOk result (D.faults_of disk.new ≡ D.faults_of disk.old) }
-        ensures writes { OnOk result (WritesRows self.old.table.acknowledged self.new.table.acknowledged (D.writes_of disk.old) (D.writes_of disk.new)) }
-        ensures unwritten { IfErr result (λ end. Unwritten end (D.writes_of disk.old) (D.writes_of disk.new)) }
+        ensures unfailed { OnOk result ((D.faults_of disk.new ≡ D.faults_of disk.old) × (K.faults_of sink.new ≡ K.faults_of sink.old)) }
         ensures served { OnOk result (self.new.served ≡ self.old.served + 1) }
-        ensures faults { D.faults_of disk.old ≤ D.faults_of disk.new }
         ensures size { D.size_of disk.new ≡ D.size_of disk.old }
         ensures same { self.new.size ≡ self.old.size }
     {
-        match self.serve(line, disk) {
+        match self.serve(line, disk, sink) {
             Ok(()) => {
                 self.input.consume(len + 1);
                 self.served += 1;
@@ -186,9 +265,8 @@ impl Script {
     /// Says that the next line is bad.
     fn refuse_line(&mut self) -> End
         ensures ends { (left given : _) → BeginsBadTold self.old.served (prepend_known self.old.input left)
-            → EndsBy self.old.size (prepend_known self.old.input left) given self.old.replies self.old.served self.old.table left result given self.new.replies }
-        ensures cause { (faults : ℕ) → CausedByDisk result faults faults }
-        ensures unwritten { (writes : ℕ) → Unwritten result writes writes }
+            → EndsBy self.old.size (prepend_known self.old.input left) given self.old.replies self.old.served self.old.table left None [] result given self.new.replies }
+        ensures cause { (disk sink : ℕ) → CausedByLine result disk disk sink sink }
         ensures same { self.new.size ≡ self.old.size }
     {
         let number = u64::from(self.served) + 1;
@@ -199,28 +277,35 @@ impl Script {
     }
 
     /// Serves the next line, of which the held input tells what it is.
-    fn serve_next<D: Disk>(&mut self, next: NextLine, disk: &mut D) -> Result<(), End>
+    fn serve_next<D: Disk, K: Sink>(
+        &mut self,
+        next: NextLine,
+        disk: &mut D,
+        sink: &mut K,
+    ) -> Result<(), End>
         requires held { IsHeld next self.old.input }
         requires size { self.old.size ≤ D.size_of disk.old }
-        ensures ok { OnOk result ((left given : _) → IsNextTold next self.old.input left
-            → Advances self.old.size (prepend_known self.old.input left) given self.old.replies self.old.served self.old.table
-            (prepend_known self.new.input left) given self.new.replies self.new.served self.new.table) }
-        ensures err { IfErr result (λ end. (left given : _) → IsNextTold next self.old.input left
-            → EndsBy self.old.size (prepend_known self.old.input left) given self.old.replies self.old.served self.old.table left end given self.new.replies) }
-        ensures cause { IfErr result (λ end. CausedByDisk end (D.faults_of disk.old) (D.faults_of disk.new)) }
+        ensures ok { OnOk result ((left : _) → IsNextTold next self.old.input left
+            → Advances (Tells (D.view disk.old) self.old.table) self.old.size
+            (prepend_known self.old.input left) (K.given sink.old) self.old.replies self.old.served self.old.table
+            (prepend_known self.new.input left) (K.given sink.new) self.new.replies self.new.served self.new.table
+            (D.reads_of disk.old) (D.reads_of disk.new) (D.writes_of disk.old) (D.writes_of disk.new)) }
+        ensures err { IfErr result (λ end. (left : _) → IsNextTold next self.old.input left
+            → Breaks (Tells (D.view disk.old) self.old.table) self.old.size
+            (prepend_known self.old.input left) (K.given sink.old) self.old.replies self.old.served self.old.table
+            left end (K.given sink.new) self.new.replies
+            (D.reads_of disk.old) (D.reads_of disk.new) (D.writes_of disk.old) (D.writes_of disk.new)) }
+        ensures cause { IfErr result (λ end. CausedByLine end (D.faults_of disk.old) (D.faults_of disk.new) (K.faults_of sink.old) (K.faults_of sink.new)) }
         ensures crash { EachImage (D.view disk.old) (HasTable self.old.table) → LeavesOnly (D.view disk.old) (D.view disk.new) (HasTable self.old.table) }
         ensures last { OnOk result (EachImage (D.view disk.old) (HasTable self.old.table) → EachImage (D.view disk.new) (HasTable self.new.table)) }
-        ensures unfailed { OnOk result (D.faults_of disk.new ≡ D.faults_of disk.old) }
-        ensures writes { OnOk result (WritesRows self.old.table.acknowledged self.new.table.acknowledged (D.writes_of disk.old) (D.writes_of disk.new)) }
-        ensures unwritten { IfErr result (λ end. Unwritten end (D.writes_of disk.old) (D.writes_of disk.new)) }
+        ensures unfailed { OnOk result ((D.faults_of disk.new ≡ D.faults_of disk.old) × (K.faults_of sink.new ≡ K.faults_of sink.old)) }
         ensures served { OnOk result (self.new.served ≡ self.old.served + 1) }
-        ensures faults { D.faults_of disk.old ≤ D.faults_of disk.new }
         ensures size { D.size_of disk.new ≡ D.size_of disk.old }
         ensures same { self.new.size ≡ self.old.size }
     {
         match next {
             NextLine::Whole { len } => match self.read_line(len) {
-                Some(line) => self.take_line(len, line, disk),
+                Some(line) => self.take_line(len, line, disk, sink),
                 None => Err(self.refuse_line()),
             },
             NextLine::TooLong => Err(self.refuse_line()),
@@ -240,11 +325,9 @@ impl Script {
             (prepend_known self.new.input (S.left source.new)) (K.given sink.new) self.new.replies self.new.served self.new.table) }
         ensures err { IfErr result (λ end. EndsBy self.old.size
             (prepend_known self.old.input (S.left source.old)) (K.given sink.old) self.old.replies self.old.served self.old.table
-            (S.left source.new) end (K.given sink.new) self.new.replies) }
+            (S.left source.new) None [] end (K.given sink.new) self.new.replies) }
         ensures cause { IfErr result (λ end. (disk : ℕ) → CausedBy end disk disk (S.faults_of source.old) (S.faults_of source.new) (K.faults_of sink.old) (K.faults_of sink.new)) }
-        ensures unwritten { IfErr result (λ end. (writes : ℕ) → Unwritten end writes writes) }
-        ensures source { S.faults_of source.old ≤ S.faults_of source.new }
-        ensures sink { K.faults_of sink.old ≤ K.faults_of sink.new }
+        ensures unfailed { OnOk result ((S.faults_of source.new ≡ S.faults_of source.old) × (K.faults_of sink.new ≡ K.faults_of sink.old)) }
         ensures same { (self.new.size ≡ self.old.size) × (self.new.served ≡ self.old.served) × (self.new.table ≡ self.old.table) }
     {
         let Ok(()) = self.replies.send(sink) else {
@@ -269,11 +352,9 @@ impl Script {
             (prepend_known self.new.input (S.left source.new)) (K.given sink.new) self.new.replies self.new.served self.new.table) }
         ensures err { IfErr result (λ end. EndsBy self.old.size
             (prepend_known self.old.input (S.left source.old)) (K.given sink.old) self.old.replies self.old.served self.old.table
-            (S.left source.new) end (K.given sink.new) self.new.replies) }
+            (S.left source.new) None [] end (K.given sink.new) self.new.replies) }
         ensures cause { IfErr result (λ end. (disk : ℕ) → CausedBy end disk disk (S.faults_of source.old) (S.faults_of source.new) (K.faults_of sink.old) (K.faults_of sink.new)) }
-        ensures unwritten { IfErr result (λ end. (writes : ℕ) → Unwritten end writes writes) }
-        ensures source { S.faults_of source.old ≤ S.faults_of source.new }
-        ensures sink { K.faults_of sink.old ≤ K.faults_of sink.new }
+        ensures unfailed { OnOk result ((S.faults_of source.new ≡ S.faults_of source.old) × (K.faults_of sink.new ≡ K.faults_of sink.old)) }
         ensures same { (self.new.size ≡ self.old.size) × (self.new.served ≡ self.old.served) × (self.new.table ≡ self.old.table) }
     {
         match self.input.held_line() {
@@ -290,28 +371,25 @@ impl Script {
         sink: &mut K,
     ) -> Result<(), End>
         requires { self.old.size ≤ D.size_of disk.old }
-        ensures ok { OnOk result (Advances self.old.size
+        ensures ok { OnOk result (Advances (Tells (D.view disk.old) self.old.table) self.old.size
             (prepend_known self.old.input (S.left source.old)) (K.given sink.old) self.old.replies self.old.served self.old.table
-            (prepend_known self.new.input (S.left source.new)) (K.given sink.new) self.new.replies self.new.served self.new.table) }
-        ensures err { IfErr result (λ end. EndsBy self.old.size
+            (prepend_known self.new.input (S.left source.new)) (K.given sink.new) self.new.replies self.new.served self.new.table
+            (D.reads_of disk.old) (D.reads_of disk.new) (D.writes_of disk.old) (D.writes_of disk.new)) }
+        ensures err { IfErr result (λ end. Breaks (Tells (D.view disk.old) self.old.table) self.old.size
             (prepend_known self.old.input (S.left source.old)) (K.given sink.old) self.old.replies self.old.served self.old.table
-            (S.left source.new) end (K.given sink.new) self.new.replies) }
+            (S.left source.new) end (K.given sink.new) self.new.replies
+            (D.reads_of disk.old) (D.reads_of disk.new) (D.writes_of disk.old) (D.writes_of disk.new)) }
         ensures cause { IfErr result (λ end. CausedBy end (D.faults_of disk.old) (D.faults_of disk.new)
             (S.faults_of source.old) (S.faults_of source.new) (K.faults_of sink.old) (K.faults_of sink.new)) }
         ensures crash { EachImage (D.view disk.old) (HasTable self.old.table) → LeavesOnly (D.view disk.old) (D.view disk.new) (HasTable self.old.table) }
         ensures last { OnOk result (EachImage (D.view disk.old) (HasTable self.old.table) → EachImage (D.view disk.new) (HasTable self.new.table)) }
-        ensures unfailed { OnOk result (D.faults_of disk.new ≡ D.faults_of disk.old) }
-        ensures writes { OnOk result (WritesRows self.old.table.acknowledged self.new.table.acknowledged (D.writes_of disk.old) (D.writes_of disk.new)) }
-        ensures unwritten { IfErr result (λ end. Unwritten end (D.writes_of disk.old) (D.writes_of disk.new)) }
+        ensures unfailed { OnOk result ((D.faults_of disk.new ≡ D.faults_of disk.old) × (S.faults_of source.new ≡ S.faults_of source.old) × (K.faults_of sink.new ≡ K.faults_of sink.old)) }
         ensures served { OnOk result (self.new.served ≡ self.old.served + 1) }
-        ensures disk { D.faults_of disk.old ≤ D.faults_of disk.new }
-        ensures source { S.faults_of source.old ≤ S.faults_of source.new }
-        ensures sink { K.faults_of sink.old ≤ K.faults_of sink.new }
         ensures size { D.size_of disk.new ≡ D.size_of disk.old }
         ensures same { self.new.size ≡ self.old.size }
     {
         match self.next_line(source, sink) {
-            Ok(next) => self.serve_next(next, disk),
+            Ok(next) => self.serve_next(next, disk, sink),
             Err(end) => Err(end),
         }
     }
@@ -327,12 +405,10 @@ impl Script {
         requires table { self.old.table ≡ empty_table }
         requires fresh { (self.old.served ≡ 0) × (self.old.input ≡ []) × (self.old.replies ≡ []) }
         ensures ends { RunEnded self.old.size (S.left source.old) (S.left source.new) result
-            (K.given sink.old) (K.given sink.new) self.new.replies (D.view disk.old) (D.view disk.new) (D.writes_of disk.old) (D.writes_of disk.new) }
+            (K.given sink.old) (K.given sink.new) self.new.replies (D.view disk.old) (D.view disk.new)
+            (D.reads_of disk.old) (D.reads_of disk.new) (D.writes_of disk.old) (D.writes_of disk.new) }
         ensures cause { CausedBy result (D.faults_of disk.old) (D.faults_of disk.new)
             (S.faults_of source.old) (S.faults_of source.new) (K.faults_of sink.old) (K.faults_of sink.new) }
-        ensures disk { D.faults_of disk.old ≤ D.faults_of disk.new }
-        ensures source { S.faults_of source.old ≤ S.faults_of source.new }
-        ensures sink { K.faults_of sink.old ≤ K.faults_of sink.new }
     {
         'lines: loop {
             match self.step(disk, source, sink) {
@@ -344,11 +420,11 @@ impl Script {
 
     /// Gives the sink what is held of the replies and what is said of the end. A sink that failed is called no more.
     fn close<K: Sink>(&mut self, end: End, sink: &mut K) -> End
-        ensures closed { (size : ℕ) (left left' first : Option (List ℕ)) (done : List ScriptLine) → Closes size left left' end first (K.given sink.old) self.old.replies done
-            → IsClosed size left left' result first (K.given sink.new) done }
-        ensures same { (result ≡ end) ⊎ (result ≡ End.SinkFault) }
-        ensures cause { result ≡ End.SinkFault → (end ≡ End.SinkFault) ⊎ Rose (K.faults_of sink.old) (K.faults_of sink.new) }
-        ensures sink { K.faults_of sink.old ≤ K.faults_of sink.new }
+        ensures closed { (left left' first : Option (List ℕ)) (done : List ScriptLine) (cut : Option ScriptLine) (said : List ℕ)
+            → Closes left left' end first (K.given sink.old) self.old.replies done cut said
+            → IsClosed left left' result first (K.given sink.new) done cut said }
+        ensures cause { ((result ≡ end) × (K.faults_of sink.new ≡ K.faults_of sink.old))
+            ⊎ ((result ≡ End.SinkFault) × (end ≢ End.SinkFault) × RoseByOne (K.faults_of sink.old) (K.faults_of sink.new)) }
     {
         if end == End::SinkFault {
             return end;
@@ -371,12 +447,9 @@ pub fn run<D: Disk, S: Source, K: Sink>(
     sink: &mut K,
 ) -> End
     ensures ran { Ran (D.size_of disk.old) (S.left source.old) (S.left source.new) (K.given sink.old) (K.given sink.new)
-        (D.view disk.old) (D.view disk.new) (D.writes_of disk.old) (D.writes_of disk.new) result }
+        (D.view disk.old) (D.view disk.new) (D.reads_of disk.old) (D.reads_of disk.new) (D.writes_of disk.old) (D.writes_of disk.new) result }
     ensures cause { CausedBy result (D.faults_of disk.old) (D.faults_of disk.new)
         (S.faults_of source.old) (S.faults_of source.new) (K.faults_of sink.old) (K.faults_of sink.new) }
-    ensures disk { D.faults_of disk.old ≤ D.faults_of disk.new }
-    ensures source { S.faults_of source.old ≤ S.faults_of source.new }
-    ensures sink { K.faults_of sink.old ≤ K.faults_of sink.new }
 {
     match Script::new(alloc, disk.size()) {
         Ok(mut script) => {

@@ -1,5 +1,5 @@
 ghost use Rattle.std.specs.Prelude.{◌≡◌};
-ghost use Rattle.qsr_top.specs.Grammar.{line_of, row_of, turn_of, without_cr};
+ghost use Rattle.qsr_top.specs.Grammar.{line_of, row_of, rows_of, turn_of, without_cr};
 
 use crate::number::{count_of, number_of};
 
@@ -10,6 +10,8 @@ pub enum ScriptLine {
     Row { value: i64 },
     /// `turn N`: writes the next rows to the disk.
     Turn { count: u64 },
+    /// `rows`: lists the rows that are acknowledged, as the disk has them.
+    Rows,
 }
 
 /// Reads a line, without its end. None where it is none of a script's.
@@ -20,7 +22,7 @@ pub fn line_of(text: &[u8]) -> Option<ScriptLine>
         Some(text) => row_of(text),
         None => match text.strip_prefix(b"turn ") {
             Some(text) => turn_of(text),
-            None => None,
+            None => rows_of(text),
         },
     }
 }
@@ -37,6 +39,16 @@ fn turn_of(text: &[u8]) -> Option<ScriptLine>
 {
     let count = count_of(text)?;
     Some(ScriptLine::Turn { count })
+}
+
+fn rows_of(text: &[u8]) -> Option<ScriptLine>
+    ensures { result ≡ rows_of text.now }
+{
+    if text == b"rows".as_slice() {
+        Some(ScriptLine::Rows)
+    } else {
+        None
+    }
 }
 
 /// The text of a line without the carriage return that may stand before its end.

@@ -1,6 +1,6 @@
 ghost use Rattle.std.specs.Prelude.{◌≡◌, ◌≢◌, ◌⊎◌, ◌≤◌, ℕ, None, Some, map};
 ghost use Rattle.std.specs.String.{string_bytes};
-ghost use Rattle.qsr_value.specs.Causes.{Rose};
+ghost use Rattle.qsr_value.specs.Causes.{RoseByOne};
 ghost use Rattle.qsr_top.specs.Ends.{status_of};
 ghost use Rattle.qsr_top.specs.Run.{Ran};
 ghost use Rattle.qsr_top.specs.Usage.{Says};
@@ -16,8 +16,8 @@ use std::alloc::Global;
 /// Writes what is said of an end, and answers the status.
 pub fn say_end<K: Sink>(end: End, out: &mut K) -> u8
     ensures says { Says end result (K.given out.old) (K.given out.new) }
-    ensures cause { result ≢ status_of end → Rose (K.faults_of out.old) (K.faults_of out.new) }
-    ensures faults { K.faults_of out.old ≤ K.faults_of out.new }
+    ensures cause { ((result ≡ status_of end) × (K.faults_of out.new ≡ K.faults_of out.old))
+        ⊎ ((result ≡ status_of End.SinkFault) × RoseByOne (K.faults_of out.old) (K.faults_of out.new)) }
 {
     match put_all(out, end.text().as_bytes()) {
         Ok(()) => end.status(),
@@ -44,14 +44,16 @@ pub fn qsr_run<D: Disk, S: Source, K: Sink>(
     // moment leaves the rows that are acknowledged behind some of those lines, and one in the end those behind all.
     ensures script { command_of (map string_bytes words.now) ≡ Some Command.Script
         → (end : End) × (result ≡ status_of end) × Ran (D.size_of disk.old) (S.left input.old) (S.left input.new) (K.given out.old) (K.given out.new)
-        (D.view disk.old) (D.view disk.new) (D.writes_of disk.old) (D.writes_of disk.new) end }
+        (D.view disk.old) (D.view disk.new) (D.reads_of disk.old) (D.reads_of disk.new) (D.writes_of disk.old) (D.writes_of disk.new) end }
 
-    // A fault of the disk, the source or the sink is answered only where that count rose. One of the disk is not passed
-    // over, but where the sink has failed as well.
-    ensures disk_fault { result ≡ status_of End.DiskFault → Rose (D.faults_of disk.old) (D.faults_of disk.new) }
+    // A fault of the disk, the source or the sink is answered only where that count rose, by one. None is passed over:
+    // where a count rose its status is answered, or that of the sink, where the sink has failed as well.
+    ensures disk_fault { result ≡ status_of End.DiskFault → RoseByOne (D.faults_of disk.old) (D.faults_of disk.new) }
     ensures disk_told { (result ≡ status_of End.DiskFault) ⊎ (result ≡ status_of End.SinkFault) ⊎ (D.faults_of disk.new ≡ D.faults_of disk.old) }
-    ensures source_fault { result ≡ status_of End.SourceFault → Rose (S.faults_of input.old) (S.faults_of input.new) }
-    ensures sink_fault { result ≡ status_of End.SinkFault → Rose (K.faults_of out.old) (K.faults_of out.new) }
+    ensures source_fault { result ≡ status_of End.SourceFault → RoseByOne (S.faults_of input.old) (S.faults_of input.new) }
+    ensures source_told { (result ≡ status_of End.SourceFault) ⊎ (result ≡ status_of End.SinkFault) ⊎ (S.faults_of input.new ≡ S.faults_of input.old) }
+    ensures sink_fault { result ≡ status_of End.SinkFault → RoseByOne (K.faults_of out.old) (K.faults_of out.new) }
+    ensures sink_told { (result ≡ status_of End.SinkFault) ⊎ (K.faults_of out.new ≡ K.faults_of out.old) }
     ensures statuses { result ≤ status_of End.NoMemory }
 
     // No count falls.

@@ -1,7 +1,7 @@
 ghost use Rattle.std.specs.Prelude.{◌≡◌, ◌+◌, ◌*◌, ◌^◌, ◌<◌, ◌≤◌, length, min, pos, IfOk, OnOk};
 ghost use Rattle.std.specs.List.{slice_index_or};
 ghost use Rattle.disk_model.specs.Image.{Holds, SameOutside};
-ghost use Rattle.disk_model.specs.View.{EachImage, LeavesOnly, Steps};
+ghost use Rattle.disk_model.specs.View.{EachImage, LeavesOnly, Stays, Steps};
 ghost use Rattle.qsr_value.specs.Causes.{CountsFault, next_count};
 ghost use Rattle.qsr_top.specs.Rows.{HasRows, WritesRows, row_bytes};
 
@@ -34,6 +34,11 @@ pub fn turn<D: Disk>(
     // Each row that is newly acknowledged is a device write of its own.
     ensures writes { IfOk result (λ now. WritesRows acknowledged now (D.writes_of disk.old) (D.writes_of disk.new)) }
 
+    // It reads nothing, and syncs once where it wrote a row, else never.
+    ensures reads { D.reads_of disk.new ≡ D.reads_of disk.old }
+    ensures synced { IfOk result (λ now. acknowledged < now → D.syncs_of disk.new ≡ next_count (D.syncs_of disk.old)) }
+    ensures unsynced { IfOk result (λ now. now ≤ acknowledged → D.syncs_of disk.new ≡ D.syncs_of disk.old) }
+
     ensures faults { CountsFault result (D.faults_of disk.old) (D.faults_of disk.new) }
     ensures size { D.size_of disk.new ≡ D.size_of disk.old }
 {
@@ -59,11 +64,39 @@ fn write_row<D: Disk>(disk: &mut D, rows: &[i64], place: usize) -> Result<(), Fa
     ensures steps { Steps (SameOutside (ROW_BYTES * place) ROW_BYTES) (D.view disk.old) (D.view disk.new) }
     ensures faults { CountsFault result (D.faults_of disk.old) (D.faults_of disk.new) }
     ensures size { D.size_of disk.new ≡ D.size_of disk.old }
+    ensures reads { D.reads_of disk.new ≡ D.reads_of disk.old }
     ensures writes { D.writes_of disk.new ≡ next_count (D.writes_of disk.old) }
+    ensures syncs { D.syncs_of disk.new ≡ D.syncs_of disk.old }
 {
     // The size is within u64, and so is each place below it.
     let _size = disk.size();
     let mut bytes = [0; 8];
     LittleEndian::write_i64(&mut bytes, rows[place]);
     disk.write(ROW_BYTES * place as u64, &bytes)
+}
+
+/// Reads the row of a place from the disk.
+pub fn read_row<D: Disk>(disk: &mut D, place: usize) -> Result<i64, Failed>
+    requires { ROW_BYTES * (place + 1) ≤ D.size_of disk.old }
+    ensures value { IfOk result (λ value. (D.view disk.old).honest → Holds (D.view disk.old).seen (ROW_BYTES * place) (row_bytes value)) }
+    ensures stays { Stays (D.view disk.old) (D.view disk.new) }
+    ensures faults { CountsFault result (D.faults_of disk.old) (D.faults_of disk.new) }
+    ensures size { D.size_of disk.new ≡ D.size_of disk.old }
+    ensures reads { D.reads_of disk.new ≡ next_count (D.reads_of disk.old) }
+    ensures writes { D.writes_of disk.new ≡ D.writes_of disk.old }
+    ensures syncs { D.syncs_of disk.new ≡ D.syncs_of disk.old }
+{
+    // The size is within u64, and so is each place below it.
+    let _size = disk.size();
+    let mut row = [0; 8];
+    disk.read(ROW_BYTES * place as u64, &mut row)?;
+    Ok(row_of(&row))
+}
+
+/// The row that these bytes are.
+fn row_of(bytes: &[u8]) -> i64
+    requires { length bytes.now ≡ 8 }
+    ensures { row_bytes result ≡ bytes.now }
+{
+    LittleEndian::read_i64(bytes)
 }

@@ -1,5 +1,5 @@
 -- When a fault of an outside object may be answered: by the object's count of its own faults.
-use Rattle.std.specs.Prelude.{◌≡◌, ℕ, zero, suc, ◌+◌, ◌-◌, ◌^◌, ◌≤◌, min, Result, MatchResult, OnErr}
+use Rattle.std.specs.Prelude.{◌≡◌, ℕ, zero, suc, ◌+◌, ◌-◌, ◌^◌, ◌≤◌, min, Result, MatchResult}
 
 -- one more, unless the count stands at the last value of u64
 abbrev pub next_count : ℕ → ℕ
@@ -10,16 +10,13 @@ abbrev pub count_behind : ℕ → ℕ → ℕ
 count_behind zero count = count
 count_behind (suc calls) count = next_count (count_behind calls count)
 
--- a count rose, or stood at the last value of u64
-pub record Rose (old new : ℕ) : Type 0 where
-  pub rose : next_count old ≤ new
+-- a count rose by one, or stays at the last value of u64
+pub record RoseByOne (old new : ℕ) : Type 0 where
+  pub exact : new ≡ next_count old
+  -- said beside it, since nothing else says that an object's count is within u64
   pub no_less : old ≤ new
 
--- of a call on the object itself: the count stays where the call succeeds, and rises where it fails
+-- of a call on the object itself, and of a function above whose one error is a fault of the object: the count stays
+-- where the call succeeds, and rises by one where it fails
 abbrev pub CountsFault : {T E : Type 0} → Result T E → ℕ → ℕ → Type 0
-CountsFault result old new = MatchResult result (λ _. new ≡ old) (λ _. Rose old new)
-
--- of a function above, whose one error is a fault of the object: it comes only where the count rose
-pub record HasCause {T E : Type 0} (result : Result T E) (old new : ℕ) : Type 0 where
-  pub no_less : old ≤ new
-  pub rose : OnErr result (Rose old new)
+CountsFault result old new = MatchResult result (λ _. new ≡ old) (λ _. RoseByOne old new)

@@ -20,5 +20,7 @@ loop-place-preserved g c = record {
       (c.in_ok-write_row.ensures.bytes was);
   size = c.write_row.ensures.size ∙ c.loop-place.invariant.size;
   faults = c.in_ok-write_row.ensures.faults ∙ c.loop-place.invariant.faults;
+  disk_reads = c.write_row.ensures.reads ∙ c.loop-place.invariant.disk_reads;
+  syncs = c.write_row.ensures.syncs ∙ c.loop-place.invariant.syncs;
   writes = WritesRows-more c.loop-place.invariant.writes c.write_row.ensures.writes;
 }

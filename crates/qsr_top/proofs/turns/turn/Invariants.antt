@@ -12,5 +12,7 @@ invariant-loop-place g l = record {
       → (g.D.Disk.view l.disk).honest → HasRows l.rows l.place (g.D.Disk.view l.disk).seen;
   size : g.D.Disk.size_of l.disk ≡ g.D.Disk.size_of l.fn.disk;
   faults : g.D.Disk.faults_of l.disk ≡ g.D.Disk.faults_of l.fn.disk;
+  disk_reads : g.D.Disk.reads_of l.disk ≡ g.D.Disk.reads_of l.fn.disk;
+  syncs : g.D.Disk.syncs_of l.disk ≡ g.D.Disk.syncs_of l.fn.disk;
   writes : WritesRows l.acknowledged l.place (g.D.Disk.writes_of l.fn.disk) (g.D.Disk.writes_of l.disk);
 }

@@ -4,32 +4,28 @@ use Rattle.qsr_top.specs.declared.end.End.{End}
 use Rattle.qsr_top.specs.declared.end.End.TheVariants.{SinkFault}
 use Rattle.qsr_top.specs.contracts.end.End.{the_type}
 use Rattle.qsr_top.specs.Progress.{Closes, IsClosed}
-use Rattle.qsr_top.proofs.RunLemmas.{IsClosed-all, IsClosed-before, IsClosed-end, IsClosed-replies}
+use Rattle.qsr_top.proofs.RunLemmas.{IsClosed-all, IsClosed-answers, IsClosed-before, IsClosed-end}
 use Rattle.qsr_top.proofs.script.Script.close.Goals as goal
 
 pub returns-then-eq-clause-closed : goal.returns-then-eq-clause-closed
-returns-then-eq-clause-closed g c size left left' first done closes =
+returns-then-eq-clause-closed g c left left' first done cut said closes =
     let is : c.args.end ≡ SinkFault = same_true the_type tt c.args.end SinkFault (sym c.if-eq.ensures) in
-    let closes' = subst (λ (end : End). Closes size left left' end first (g.K.Sink.given c.args.sink.now) c.args.self.now.replies done) is closes in
-    subst (λ (end : End). IsClosed size left left' end first (g.K.Sink.given c.args.sink.now) done) (sym is)
-    (IsClosed-before size left left' first (g.K.Sink.given c.args.sink.now) c.args.self.now.replies done closes')
+    let closes' = subst (λ (end : End). Closes left left' end first (g.K.Sink.given c.args.sink.now) c.args.self.now.replies done cut said) is closes in
+    subst (λ (end : End). IsClosed left left' end first (g.K.Sink.given c.args.sink.now) done cut said) (sym is) (IsClosed-before closes')
 
 pub returns-in_default-clause-closed : goal.returns-in_default-clause-closed
-returns-in_default-clause-closed g c size left left' first done closes =
+returns-in_default-clause-closed g c left left' first done cut said closes =
     let goes : c.args.end ≡ SinkFault → ⊥ = λ is. let test = rw is at c.eq.ensures in cc in
-    IsClosed-replies size left left' c.args.end first (g.K.Sink.given c.args.sink.now) (g.K.Sink.given c.send.new.sink) c.args.self.now.replies done
-    goes closes c.in_default.ensures.failed
+    IsClosed-answers goes closes c.in_default.ensures.failed
 
 pub returns-in_default-put_all-clause-closed : goal.returns-in_default-put_all-clause-closed
-returns-in_default-put_all-clause-closed g c size left left' first done closes =
+returns-in_default-put_all-clause-closed g c left left' first done cut said closes =
     let goes : c.args.end ≡ SinkFault → ⊥ = λ is. let test = rw is at c.eq.ensures in cc in
-    let cut = rw (c.as_bytes.ensures.value, c.text.ensures) at c.in_default-put_all.ensures.failed in
-    IsClosed-end size left left' c.args.end first (g.K.Sink.given c.args.sink.now) (g.K.Sink.given c.send.new.sink) (g.K.Sink.given c.put_all.new.sink) c.args.self.now.replies done
-    goes closes c.in-Ok.ensures.ok cut
+    let cut_off = rw (c.as_bytes.ensures.value, c.text.ensures) at c.in_default-put_all.ensures.failed in
+    IsClosed-end (g.K.Sink.given c.send.new.sink) goes closes c.in-Ok.ensures.ok cut_off
 
 pub returns-clause-closed : goal.returns-clause-closed
-returns-clause-closed g c size left left' first done closes =
+returns-clause-closed g c left left' first done cut said closes =
     let goes : c.args.end ≡ SinkFault → ⊥ = λ is. let test = rw is at c.eq.ensures in cc in
     let says = rw (c.as_bytes.ensures.value, c.text.ensures) at c.in-Ok-put_all.ensures.ok in
-    IsClosed-all size left left' c.args.end first (g.K.Sink.given c.args.sink.now) (g.K.Sink.given c.send.new.sink) (g.K.Sink.given c.put_all.new.sink) c.args.self.now.replies done
-    goes closes c.in-Ok.ensures.ok says
+    IsClosed-all (g.K.Sink.given c.send.new.sink) goes closes c.in-Ok.ensures.ok says

@@ -1,5 +1,5 @@
 use Rattle.std.specs.Io.KnownBytes.{prepend_known}
-use Rattle.qsr_top.proofs.RunLemmas.{EndsBy-sink, EndsBy-source, GoesOn-read}
+use Rattle.qsr_top.proofs.StepLemmas.{EndsBy-sink, EndsBy-source, GoesOn-read}
 use Rattle.qsr_top.proofs.script.Script.read_on.Goals as goal
 
 pub returns-in_default-clause-err : goal.returns-in_default-clause-err

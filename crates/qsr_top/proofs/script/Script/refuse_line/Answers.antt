@@ -1,4 +1,4 @@
-use Rattle.qsr_top.proofs.RunLemmas.{EndsBy-bad}
+use Rattle.qsr_top.proofs.StepLemmas.{EndsBy-bad}
 use Rattle.qsr_top.proofs.script.Script.refuse_line.Goals as goal
 
 pub returns-in-Ok-clause-ends : goal.returns-in-Ok-clause-ends

@@ -9,10 +9,10 @@ abbrev pub invariant-lines : goal.invariant-lines
 invariant-lines g l = record {
   run : RunSoFar l.fn.self.size (g.S.Source.left l.fn.source) (prepend_known l.self.input (g.S.Source.left l.source))
       (g.K.Sink.given l.fn.sink) (g.K.Sink.given l.sink) l.self.replies l.self.served l.self.table (g.D.Disk.view l.fn.disk) (g.D.Disk.view l.disk)
-      (g.D.Disk.writes_of l.fn.disk) (g.D.Disk.writes_of l.disk);
+      (g.D.Disk.reads_of l.fn.disk) (g.D.Disk.reads_of l.disk) (g.D.Disk.writes_of l.fn.disk) (g.D.Disk.writes_of l.disk);
   disk : g.D.Disk.faults_of l.disk ≡ g.D.Disk.faults_of l.fn.disk;
-  source : g.S.Source.faults_of l.fn.source ≤ g.S.Source.faults_of l.source;
-  sink : g.K.Sink.faults_of l.fn.sink ≤ g.K.Sink.faults_of l.sink;
+  source : g.S.Source.faults_of l.source ≡ g.S.Source.faults_of l.fn.source;
+  sink : g.K.Sink.faults_of l.sink ≡ g.K.Sink.faults_of l.fn.sink;
   size : l.self.size ≡ l.fn.self.size;
   fits : l.self.size ≤ g.D.Disk.size_of l.disk;
 }

@@ -1,13 +1,14 @@
-use Rattle.qsr_top.proofs.RunLemmas.{Advances-line, EndsBy-cut}
+use Rattle.qsr_top.proofs.StepLemmas.{Advances-line, Breaks-line}
 use Rattle.qsr_top.proofs.script.Script.take_line.Goals as goal
 
 pub returns-in-Ok-clause-ok : goal.returns-in-Ok-clause-ok
-returns-in-Ok-clause-ok g c left given begins says =
+returns-in-Ok-clause-ok g c left begins says =
     let script = c.args.self.now in
-    rw (c.consume.ensures, c.in-Ok.ensures.table, c.in-Ok.ensures.reply, c.serve.ensures.same.1, c.serve.ensures.same.2)
-    (Advances-line script.size script.input left given script.replies script.served script.table c.args.len c.args.line begins says)
+    let writes = rw c.in-Ok.ensures.table at c.in-Ok.ensures.writes in
+    rw (c.consume.ensures, c.in-Ok.ensures.table, c.serve.ensures.same.1, c.serve.ensures.same.2)
+    (Advances-line c.in-Ok.ensures.ok script.input left script.served c.args.len begins says c.in-Ok.ensures.reads writes)
 
 pub returns-in-Err-clause-err : goal.returns-in-Err-clause-err
-returns-in-Err-clause-err g c left given =
+returns-in-Err-clause-err g c left begins says =
     let script = c.args.self.now in
-    rw c.in-Err.ensures.err (EndsBy-cut c.in-Err.end _ _ c.in-Err.ensures.cause script.size script.input left given script.replies script.served script.table)
+    Breaks-line c.in-Err.ensures.err script.input left script.served c.args.len begins says c.in-Err.ensures.cut_reads c.in-Err.ensures.cut_writes
