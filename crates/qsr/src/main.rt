@@ -4,6 +4,8 @@
 #[cfg(test)]
 mod example_tests;
 #[cfg(test)]
+mod format_tests;
+#[cfg(test)]
 mod long_tests;
 #[cfg(test)]
 mod rows_tests;

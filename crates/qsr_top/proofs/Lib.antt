@@ -1,6 +1,7 @@
 pub mod AnswerLemmas
 pub mod BufferLemmas
 pub mod CrashLemmas
+pub mod FormatLemmas
 pub mod LineLemmas
 pub mod NumberLemmas
 pub mod ProgressLemmas

@@ -2,7 +2,7 @@
 use Rattle.std.specs.Prelude.{⊤, ◌≡◌, ◌⊎◌, ℕ, List, [], Option, None, Some, codes}
 use Rattle.qsr_value.specs.Causes.{RoseByOne}
 use Rattle.qsr_top.specs.declared.end.End.{End}
-use Rattle.qsr_top.specs.declared.end.End.TheVariants.{Finished, BadLine, Usage, DiskFault, SourceFault, SinkFault, NoMemory}
+use Rattle.qsr_top.specs.declared.end.End.TheVariants.{Finished, BadLine, Usage, Refused, DiskFault, SourceFault, SinkFault, NoMemory}
 use Rattle.qsr_top.specs.declared.script_line.ScriptLine.{ScriptLine}
 use Rattle.qsr_top.specs.declared.script_line.ScriptLine.TheVariants.{Row, Turn, Rows}
 
@@ -10,6 +10,7 @@ abbrev pub status_of : End → ℕ
 status_of Finished = 0
 status_of BadLine = 1
 status_of Usage = 2
+status_of Refused = 8
 status_of DiskFault = 3
 status_of SourceFault = 4
 status_of SinkFault = 5
@@ -20,6 +21,7 @@ abbrev pub end_text : End → List ℕ
 end_text Finished = []
 end_text BadLine = []
 end_text Usage = codes "usage: qsr FILE COMMAND\n"
+end_text Refused = []
 end_text DiskFault = codes "disk fault\n"
 end_text SourceFault = codes "source fault\n"
 end_text SinkFault = []
@@ -40,6 +42,7 @@ CausedBy DiskFault disk disk' source source' sink sink' = RoseByOne disk disk' �
 CausedBy SourceFault disk disk' source source' sink sink' = (disk' ≡ disk) × RoseByOne source source' × (sink' ≡ sink)
 CausedBy SinkFault disk disk' source source' sink sink' = RoseOnceAtMost disk disk' × RoseOnceAtMost source source' × RoseByOne sink sink'
 CausedBy Usage disk disk' source source' sink sink' = ⊥
+CausedBy Refused disk disk' source source' sink sink' = ⊥
 
 -- the cause of an end of a line, by the counts of the disk and the sink
 abbrev pub CausedByLine : End → ℕ → ℕ → ℕ → ℕ → Type 0
@@ -50,6 +53,7 @@ CausedByLine DiskFault disk disk' sink sink' = RoseByOne disk disk' × (sink' �
 CausedByLine SinkFault disk disk' sink sink' = (disk' ≡ disk) × RoseByOne sink sink'
 CausedByLine SourceFault disk disk' sink sink' = ⊥
 CausedByLine Usage disk disk' sink sink' = ⊥
+CausedByLine Refused disk disk' sink sink' = ⊥
 
 -- the cause of an end of a turn
 abbrev pub CutsTurn : End → ℕ → ℕ → Type 0
@@ -60,6 +64,7 @@ CutsTurn BadLine disk disk' = ⊥
 CutsTurn SourceFault disk disk' = ⊥
 CutsTurn SinkFault disk disk' = ⊥
 CutsTurn Usage disk disk' = ⊥
+CutsTurn Refused disk disk' = ⊥
 
 -- Where a run has ended so: within a line, which it cut off, or between two lines.
 --   a fault of the disk comes within a line that calls it
@@ -74,3 +79,4 @@ EndsIn DiskFault (Some Rows) = ⊤
 EndsIn SinkFault cut = ⊤
 EndsIn NoMemory cut = ⊤
 EndsIn Usage cut = ⊥
+EndsIn Refused cut = ⊥

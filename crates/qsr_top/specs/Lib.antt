@@ -1,5 +1,6 @@
 pub mod Answers
 pub mod Ends
+pub mod Formats
 pub mod Grammar
 pub mod Lines
 pub mod Machine

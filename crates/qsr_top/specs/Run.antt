@@ -6,7 +6,7 @@ use Rattle.qsr_value.specs.Causes.{count_behind}
 use Rattle.disk_model.specs.Image.{Image}
 use Rattle.disk_model.specs.View.{View, EachImage, LeavesOnly}
 use Rattle.qsr_top.specs.declared.end.End.{End}
-use Rattle.qsr_top.specs.declared.end.End.TheVariants.{Finished, BadLine, Usage, DiskFault, SourceFault, SinkFault, NoMemory}
+use Rattle.qsr_top.specs.declared.end.End.TheVariants.{Finished, BadLine, Usage, Refused, DiskFault, SourceFault, SinkFault, NoMemory}
 use Rattle.qsr_top.specs.declared.reply.Reply.TheVariants.{BadLine as BadLineReply}
 use Rattle.qsr_top.specs.declared.script_line.ScriptLine.{ScriptLine}
 use Rattle.qsr_top.specs.declared.script_line.ScriptLine.TheVariants.{Row, Turn, Rows}
@@ -34,6 +34,7 @@ ReadsTo bytes left done DiskFault = ⊤
 ReadsTo bytes left done SinkFault = ⊤
 ReadsTo bytes left done NoMemory = ⊤
 ReadsTo bytes left done Usage = ⊥
+ReadsTo bytes left done Refused = ⊥
 
 -- the lines that a run has come to: those that were served, and the one that it cut off
 abbrev pub lines_come_to : List ScriptLine → Option ScriptLine → List ScriptLine
@@ -55,6 +56,7 @@ abbrev pub last_text : List ScriptLine → End → List ℕ
 last_text done BadLine = text_of (BadLineReply (length done + 1))
 last_text done Finished = end_text Finished
 last_text done Usage = end_text Usage
+last_text done Refused = end_text Refused
 last_text done DiskFault = end_text DiskFault
 last_text done SourceFault = end_text SourceFault
 last_text done SinkFault = end_text SinkFault
@@ -77,6 +79,7 @@ Writes left left' done cut said SinkFault text = IsCutOff left left' done cut sa
 Writes left left' done cut said Finished text = text ≡ whole_text done said Finished
 Writes left left' done cut said BadLine text = text ≡ whole_text done said BadLine
 Writes left left' done cut said Usage text = text ≡ whole_text done said Usage
+Writes left left' done cut said Refused text = text ≡ whole_text done said Refused
 Writes left left' done cut said DiskFault text = text ≡ whole_text done said DiskFault
 Writes left left' done cut said SourceFault text = text ≡ whole_text done said SourceFault
 Writes left left' done cut said NoMemory text = text ≡ whole_text done said NoMemory

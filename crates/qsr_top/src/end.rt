@@ -10,6 +10,8 @@ pub enum End {
     BadLine,
     /// The words name no command, or not all that it needs.
     Usage,
+    /// A command was refused, and has said why.
+    Refused,
     DiskFault,
     SourceFault,
     SinkFault,
@@ -29,6 +31,7 @@ impl End {
             End::SourceFault => 4,
             End::SinkFault => 5,
             End::NoMemory => 6,
+            End::Refused => 8,
         }
     }
 
@@ -42,7 +45,7 @@ impl End {
             End::DiskFault => "disk fault\n",
             End::SourceFault => "source fault\n",
             End::NoMemory => "no memory\n",
-            End::Finished | End::BadLine | End::SinkFault => "",
+            End::Finished | End::BadLine | End::Refused | End::SinkFault => "",
         }
     }
 }

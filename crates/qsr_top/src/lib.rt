@@ -3,6 +3,7 @@
 
 mod command;
 mod end;
+mod formats;
 mod line_buffer;
 mod next_line;
 mod number;

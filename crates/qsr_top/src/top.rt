@@ -1,14 +1,18 @@
-ghost use Rattle.std.specs.Prelude.{◌≡◌, ◌≢◌, ◌⊎◌, ◌≤◌, ℕ, None, Some, map};
+ghost use Rattle.std.specs.Prelude.{◌≡◌, ◌⊎◌, ◌<◌, ◌≤◌, ℕ, None, Some, map};
 ghost use Rattle.std.specs.String.{string_bytes};
 ghost use Rattle.qsr_value.specs.Causes.{RoseByOne};
+ghost use Rattle.disk_model.specs.View.{LeavesOnly};
+ghost use Rattle.page_store.specs.Format.{IsOldNoneOrNew};
+ghost use Rattle.page_store.specs.declared.pages.Sizes.{Sizes};
 ghost use Rattle.qsr_top.specs.Ends.{status_of};
+ghost use Rattle.qsr_top.specs.Formats.{Formatted, bytes_needed};
 ghost use Rattle.qsr_top.specs.Run.{Ran};
 ghost use Rattle.qsr_top.specs.Usage.{Says};
 ghost use Rattle.qsr_top.specs.Words.{command_of};
 
 use crate::command::{Command, command_of};
 use crate::end::End;
-use crate::script;
+use crate::{formats, script};
 use disk_model::Disk;
 use qsr_io::{Sink, Source, put_all};
 use std::alloc::Global;
@@ -46,6 +50,18 @@ pub fn qsr_run<D: Disk, S: Source, K: Sink>(
         → (end : End) × (result ≡ status_of end) × Ran (D.size_of disk.old) (S.left input.old) (S.left input.new) (K.given out.old) (K.given out.new)
         (D.view disk.old) (D.view disk.new) (D.reads_of disk.old) (D.reads_of disk.new) (D.writes_of disk.old) (D.writes_of disk.new) end }
 
+    // What `format` says is how many pages the store has, or that the disk is too small, which it is then exactly. A
+    // crash at any moment leaves what could be left before, no store, or the empty one; where it says that it has
+    // formatted the disk, the empty one. The input isn't read.
+    ensures format { (sizes : Sizes) → command_of (map string_bytes words.now) ≡ Some (Command.Format sizes)
+        → (end : End) × (result ≡ status_of end) × Formatted sizes (D.size_of disk.old) (K.given out.old) (K.given out.new) (D.view disk.new)
+        (D.faults_of disk.old) (D.faults_of disk.new) (K.faults_of out.old) (K.faults_of out.new) end }
+    ensures format_crash { (sizes : Sizes) → command_of (map string_bytes words.now) ≡ Some (Command.Format sizes)
+        → LeavesOnly (D.view disk.old) (D.view disk.new) (IsOldNoneOrNew (D.view disk.old) sizes) }
+    ensures format_small { (sizes : Sizes) → command_of (map string_bytes words.now) ≡ Some (Command.Format sizes)
+        → D.size_of disk.old < bytes_needed sizes → disk.new ≡ disk.old }
+    ensures format_input { (sizes : Sizes) → command_of (map string_bytes words.now) ≡ Some (Command.Format sizes) → input.new ≡ input.old }
+
     // A fault of the disk, the source or the sink is answered only where that count rose, by one. None is passed over:
     // where a count rose its status is answered, or that of the sink, where the sink has failed as well.
     ensures disk_fault { result ≡ status_of End.DiskFault → RoseByOne (D.faults_of disk.old) (D.faults_of disk.new) }
@@ -54,7 +70,7 @@ pub fn qsr_run<D: Disk, S: Source, K: Sink>(
     ensures source_told { (result ≡ status_of End.SourceFault) ⊎ (result ≡ status_of End.SinkFault) ⊎ (S.faults_of input.new ≡ S.faults_of input.old) }
     ensures sink_fault { result ≡ status_of End.SinkFault → RoseByOne (K.faults_of out.old) (K.faults_of out.new) }
     ensures sink_told { (result ≡ status_of End.SinkFault) ⊎ (K.faults_of out.new ≡ K.faults_of out.old) }
-    ensures statuses { result ≤ status_of End.NoMemory }
+    ensures statuses { (end : End) × (result ≡ status_of end) }
 
     // No count falls.
     ensures disk_count { D.faults_of disk.old ≤ D.faults_of disk.new }
@@ -63,6 +79,7 @@ pub fn qsr_run<D: Disk, S: Source, K: Sink>(
 {
     match command_of(words) {
         Some(Command::Script) => script::run(alloc, disk, input, out).status(),
+        Some(Command::Format { sizes }) => formats::run(alloc, sizes, disk, out).status(),
         None => say_end(End::Usage, out),
     }
 }

@@ -1,0 +1,40 @@
+-- The number in some bytes of a page.
+use Rattle.std.proofs.Common.{◌≡◌, ℕ, zero, suc, ◌+◌, ◌^◌, ◌<◌, ◌≤◌, List, [], length, drop, slice_index, refl, sym, ap, ◌∙◌, arith, append-nil}
+use Rattle.std.proofs.lemmas.List.{get_or-drop}
+use Rattle.byteorder.specs.Endian.{little_bytes, little_from}
+use Rattle.byteorder.specs.Numbers.{length-bytes_low_first, little_number-reads_back}
+use Rattle.qsr_layout.specs.Page.{Holds}
+
+-- the number reads only its own bytes
+pub little_from-same : (at n : ℕ) (xs ys : List ℕ) → ((k : ℕ) → at ≤ k → k < at + n → slice_index xs k ≡ slice_index ys k)
+    → little_from at n xs ≡ little_from at n ys
+little_from-same at zero xs ys same = refl
+little_from-same at (suc n) xs ys same =
+    let byte = same at (omega arith) (omega arith) in
+    let rest = little_from-same (suc at) n xs ys (λ k low high. same k (omega arith) (omega arith)) in
+    rw (byte, rest) refl
+
+-- the number in bytes that stand further on
+pub little_from-moved : (at i n : ℕ) (page bytes : List ℕ) → ((k : ℕ) → k < i + n → slice_index page (at + k) ≡ slice_index bytes k)
+    → little_from (at + i) n page ≡ little_from i n bytes
+little_from-moved at i zero page bytes same = refl
+little_from-moved at i (suc n) page bytes same =
+    let byte = same i (omega arith) in
+    let next : suc (at + i) ≡ at + suc i = omega arith in
+    let rest = little_from-moved at (suc i) n page bytes (λ k high. same k (omega arith)) in
+    rw (byte, next, rest) refl
+
+-- the number behind a first part of the page
+pub little_from-drop : (at n : ℕ) (page : List ℕ) → little_from 0 n (drop at page) ≡ little_from at n page
+little_from-drop at n page =
+    let start : at + 0 ≡ at = omega arith in
+    sym (ap (λ (i : ℕ). little_from i n page) (sym start) ∙ little_from-moved at 0 n page (drop at page) (λ k high. sym (get_or-drop at page k 0)))
+
+-- where the bytes of a number stand, that number stands
+pub little_from-holds : (at n v : ℕ) (page : List ℕ) → v < 256 ^ n → Holds page at (little_bytes n v) → little_from at n page ≡ v
+little_from-holds at n v page fits holds =
+    let long : length (little_bytes n v) ≡ n = length-bytes_low_first 0 n v in
+    let start : at + 0 ≡ at = omega arith in
+    let moved = little_from-moved at 0 n page (little_bytes n v) (λ k high. holds.each k (omega (arith, long))) in
+    let back = little_number-reads_back n v [] fits in
+    ap (λ (i : ℕ). little_from i n page) (sym start) ∙ moved ∙ ap (little_from 0 n) (sym (append-nil (little_bytes n v))) ∙ back

@@ -1,0 +1,9 @@
+//! The fixed records of the store's pages: where each field of a record stands, and how it is read and written.
+#![tactic(auto)]
+
+mod fields;
+pub mod records;
+#[cfg(test)]
+mod tests;
+
+pub use fields::{Field, Layout, PAGE_BYTES, read_field, write_field};

@@ -1,0 +1,65 @@
+ghost use Rattle.std.specs.Prelude.{◌≡◌, ◌<◌, IfOk, OnErr};
+ghost use Rattle.std.specs.String.{string_bytes};
+ghost use Rattle.disk_model.specs.View.{LeavesOnly};
+ghost use Rattle.page_store.specs.Format.{IsOldNoneOrNew};
+ghost use Rattle.page_store.specs.PageOrder.{AreSizes};
+ghost use Rattle.qsr_top.specs.Ends.{end_text};
+ghost use Rattle.qsr_top.specs.Formats.{Formatted, IsTold, bytes_needed, formatted_text, too_small_text};
+
+use crate::end::End;
+use disk_model::Disk;
+use page_store::{Sizes, StoreFault, format};
+use qsr_io::{Failed, Sink, put_all};
+use std::alloc::{AllocError, Global};
+
+/// Formats the disk, and says what came of it.
+pub fn run<D: Disk, K: Sink>(alloc: Global, sizes: Sizes, disk: &mut D, sink: &mut K) -> End
+    requires { AreSizes sizes }
+    ensures ran { Formatted sizes (D.size_of disk.old) (K.given sink.old) (K.given sink.new) (D.view disk.new)
+        (D.faults_of disk.old) (D.faults_of disk.new) (K.faults_of sink.old) (K.faults_of sink.new) result }
+    ensures any_moment { LeavesOnly (D.view disk.old) (D.view disk.new) (IsOldNoneOrNew (D.view disk.old) sizes) }
+    ensures untouched { D.size_of disk.old < bytes_needed sizes → disk.new ≡ disk.old }
+{
+    match format(disk, sizes) {
+        Ok(pages) => say(formatted(alloc, pages), End::Finished, sink),
+        Err(StoreFault::TooSmall { need, have }) => {
+            say(too_small(alloc, need, have), End::Refused, sink)
+        }
+        Err(StoreFault::Failed | StoreFault::NotStore { .. }) => {
+            tell(End::DiskFault.text(), End::DiskFault, sink)
+        }
+    }
+}
+
+/// Tells a text and its end, or that there was no memory for the text.
+fn say<K: Sink>(text: Result<String, AllocError>, told: End, sink: &mut K) -> End
+    ensures ok { IfOk text (λ text. IsTold (string_bytes text) told result (K.given sink.old) (K.given sink.new) (K.faults_of sink.old) (K.faults_of sink.new)) }
+    ensures err { OnErr text (IsTold (end_text End.NoMemory) End.NoMemory result (K.given sink.old) (K.given sink.new) (K.faults_of sink.old) (K.faults_of sink.new)) }
+{
+    match text {
+        Ok(text) => tell(text.as_str(), told, sink),
+        Err(AllocError) => tell(End::NoMemory.text(), End::NoMemory, sink),
+    }
+}
+
+/// Tells a text and its end.
+fn tell<K: Sink>(text: &str, told: End, sink: &mut K) -> End
+    ensures { IsTold text.now told result (K.given sink.old) (K.given sink.new) (K.faults_of sink.old) (K.faults_of sink.new) }
+{
+    match put_all(sink, text.as_bytes()) {
+        Ok(()) => told,
+        Err(Failed) => End::SinkFault,
+    }
+}
+
+fn formatted(alloc: Global, pages: u32) -> Result<String, AllocError>
+    ensures { IfOk result (λ text. string_bytes text ≡ formatted_text pages) }
+{
+    format!(in alloc; "formatted {pages} pages\n")
+}
+
+fn too_small(alloc: Global, need: u64, have: u64) -> Result<String, AllocError>
+    ensures { IfOk result (λ text. string_bytes text ≡ too_small_text need have) }
+{
+    format!(in alloc; "too small need {need} have {have}\n")
+}
