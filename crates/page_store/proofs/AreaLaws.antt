@@ -40,7 +40,7 @@ get-index sizes k before =
     ∙ get_or_append_left (replicate 16 sizes.index) (repeated 8 (job_parts sizes)) 0 k (omega (arith, before, length-replicate 16 sizes.index))
     ∙ get_or-replicate 16 k sizes.index 0 before
 
-get-job : (sizes : Sizes) (job k : ℕ) → job < 8 → k < 8 → slice_index (parts sizes) (job_part job k) ≡ slice_index (job_parts sizes) k
+pub get-job : (sizes : Sizes) (job k : ℕ) → job < 8 → k < 8 → slice_index (parts sizes) (job_part job k) ≡ slice_index (job_parts sizes) k
 get-job sizes job k before inside =
     let at : job_part job k ≡ 19 + (16 + (job * 8 + k)) = omega arith in
     let back : 16 + (job * 8 + k) - 16 ≡ job * 8 + k = omega arith in
@@ -65,11 +65,11 @@ get-area sizes (Out job) is = get-job sizes job 4 is (omega arith)
 get-area sizes (Image job side) is = get-job sizes job (4 + side) is.0 (omega (arith, is.2)) ∙ get-image sizes side is.1 is.2
 get-area sizes (Spill job) is = get-job sizes job 7 is (omega arith)
 
-length-parts : (sizes : Sizes) → length (parts sizes) ≡ 99
+pub length-parts : (sizes : Sizes) → length (parts sizes) ≡ 99
 unfolding parts
 length-parts sizes = refl
 
-part_inside : (area : Area) → IsArea area → part_of area < 99
+pub part_inside : (area : Area) → IsArea area → part_of area < 99
 part_inside (Table table) is = omega arith
 part_inside (Index index) is = omega arith
 part_inside (Text job) is = omega arith

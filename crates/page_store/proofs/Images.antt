@@ -6,12 +6,12 @@ use Rattle.disk_model.specs.View.{View, After, EachImage, IsSynced, LeavesOnly, 
 use Rattle.disk_model.proofs.Runs.{weaker_run}
 use Rattle.page_store.specs.declared.pages.Sizes.{Sizes}
 use Rattle.page_store.specs.declared.records.TheConstants.{OPEN, CLOSED}
-use Rattle.page_store.specs.Format.{IsNew, IsNewJob, IsNewTwin, IsNoStore, IsWritten, SameBelow, empty_catalogue, free_head, head_bytes, head_rest, slot_bytes}
+use Rattle.page_store.specs.Format.{IsNew, IsNewJob, IsNewTwin, IsNoStore, IsWritten, SameBelow, empty_catalogue, free_head, head_bytes, behind_gate, head_rest, slot_bytes, slot_front}
 use Rattle.page_store.specs.PageOrder.{parts, job_part, start_of}
 use Rattle.page_store.proofs.PageLaws.{job_behind, job_before, job_second}
 
 pub length-slot_bytes : (gate sequence : ℕ) (body : List ℕ) → length (slot_bytes gate sequence body) ≡ 8 + length body
-unfolding slot_bytes
+unfolding slot_front behind_gate
 length-slot_bytes gate sequence body = omega arith
 
 pub length-head_rest : (sizes : Sizes) → length (head_rest sizes) ≡ 30

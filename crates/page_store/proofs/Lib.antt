@@ -1,8 +1,17 @@
 pub mod AreaLaws
+pub mod Commits
+pub mod Heads
 pub mod Images
+pub mod LiftedRuns
 pub mod PageBytes
 pub mod PageLaws
 pub mod Parts
+pub mod Places
 pub mod Runs
+pub mod SlotBytes
+pub mod StoreCommits
+pub mod StoreContents
 pub mod StoreRuns
+pub mod TwinLaws
+pub mod TwinRuns
 pub mod Worked

@@ -1,5 +1,5 @@
 -- Runs over a disk that change what is there by steps.
-use Rattle.std.proofs.Common.{arith}
+use Rattle.std.proofs.Common.{arith, Result, Ok, Err, OnOk}
 use Rattle.disk_model.specs.View.{View, Steps}
 use Rattle.disk_model.proofs.Runs.{and_then, no_call, weaker_run}
 
@@ -31,3 +31,8 @@ no_step v same = record {
   crash = λ i now. (i, now, same i);
   time = no_call v (λ i now. now);
 }
+
+-- two facts of a call that succeeded
+pub on_ok_both : {T E A B C : Type 0} (r : Result T E) → (A → B → C) → OnOk r A → OnOk r B → OnOk r C
+on_ok_both (Ok v) f a b = f a b
+on_ok_both (Err e) f a b = tt

@@ -1,7 +1,7 @@
 -- The definitions at numbers and bytes that were worked out by hand.
-use Rattle.std.proofs.Common.{◌≡◌, List, [], ◌∷◌, sum, refl}
+use Rattle.std.proofs.Common.{◌≡◌, [], ◌∷◌, sum, refl}
 use Rattle.page_store.specs.declared.pages.Sizes.{Sizes}
-use Rattle.page_store.specs.Format.{empty_catalogue, head_bytes, head_rest, slot_bytes}
+use Rattle.page_store.specs.Format.{behind_gate, empty_catalogue, head_bytes, head_rest, slot_bytes, slot_front}
 use Rattle.page_store.specs.PageOrder.{job_part, parts, start_of}
 
 worked : Sizes
@@ -29,5 +29,5 @@ unfolding head_bytes head_rest worked
 head = refl
 
 catalogue : slot_bytes 165 0 empty_catalogue ≡ 165 ∷ 0 ∷ 2 ∷ 0 ∷ 0 ∷ 0 ∷ 0 ∷ 0 ∷ 0 ∷ 0 ∷ []
-unfolding slot_bytes
+unfolding slot_front behind_gate
 catalogue = refl

@@ -25,9 +25,17 @@ head_rest sizes =
 unfoldable pub head_bytes : ℕ → Sizes → List ℕ
 head_bytes gate sizes = gate ∷ head_rest sizes
 
--- a slot of a twin: the gate, the sequence, the length of the body, two zeros, the body
-unfoldable pub slot_bytes : ℕ → ℕ → List ℕ → List ℕ
-slot_bytes gate sequence body = gate ∷ sequence ∷ (little 4 (length body) ++ 0 ∷ 0 ∷ body)
+-- What stands behind the gate of a slot: the sequence, how many bytes the body has, two zeros, and the body's front.
+unfoldable pub behind_gate : ℕ → ℕ → List ℕ → List ℕ
+behind_gate sequence len front = sequence ∷ (little 4 len ++ 0 ∷ 0 ∷ front)
+
+-- a slot up to the end of a front of its body
+unfoldable pub slot_front : ℕ → ℕ → ℕ → List ℕ → List ℕ
+slot_front gate sequence len front = gate ∷ behind_gate sequence len front
+
+-- a slot of a twin
+abbrev pub slot_bytes : ℕ → ℕ → List ℕ → List ℕ
+slot_bytes gate sequence body = slot_front gate sequence (length body) body
 
 -- A twin with its slots at these pages: the first is open, at sequence 0, with this body; the second is closed.
 pub record IsNewTwin (c : Image) (first second : ℕ) (body : List ℕ) : Type 0 where

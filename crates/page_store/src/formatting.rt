@@ -8,15 +8,11 @@ ghost use Rattle.page_store.specs.Format.{CausedBy, IsFormatFault, IsNew, IsNewJ
 ghost use Rattle.page_store.specs.PageOrder.{AreSizes, parts};
 
 use crate::pages::job_page;
-use crate::records::{CLOSED, OPEN, STORE_HEAD_BYTES, head_page, slot_page};
+use crate::records::{CLOSED, OPEN, PAGE, STORE_HEAD_BYTES, head_page, slot_page};
 use crate::{Sizes, StoreFault, layout_pages};
 use disk_model::Disk;
-use qsr_layout::PAGE_BYTES;
 use qsr_layout::records::{JOB_HEAD_BYTES, SLOT_BODY_AT};
 use qsr_value::Failed;
-
-/// How many bytes a page has.
-const PAGE: u64 = PAGE_BYTES as u64;
 
 /// The pages at which the slots of the catalogue begin.
 const CATALOGUE: [u32; 2] = [1, 3];
@@ -168,7 +164,7 @@ fn write_twin<D: Disk>(disk: &mut D, first: u32, second: u32, body: &[u8]) -> Re
     ensures syncs { D.syncs_of disk.new ≡ D.syncs_of disk.old }
     ensures size { D.size_of disk.new ≡ D.size_of disk.old }
 {
-    let page = slot_page(OPEN, 0, body);
+    let page = slot_page(OPEN, 0, body.len() as u32, body);
     disk.write(PAGE * first as u64, &page[..SLOT_BODY_AT + body.len()])?;
     disk.write(PAGE * second as u64, &[CLOSED])
 }

@@ -3,11 +3,19 @@
 
 mod fault;
 mod formatting;
+mod gates;
+mod opening;
 mod pages;
 mod records;
+mod slots;
+mod store;
+#[cfg(test)]
+mod store_tests;
 #[cfg(test)]
 mod tests;
+mod twins;
 
 pub use fault::StoreFault;
 pub use formatting::format;
-pub use pages::{Area, Sizes, first_page, layout_pages};
+pub use pages::{Area, Sizes, Twin, first_page, layout_pages};
+pub use store::{Store, Unopened};

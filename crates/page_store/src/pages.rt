@@ -2,12 +2,18 @@
 
 ghost use Rattle.std.specs.Prelude.{◌≡◌, ◌+◌, ◌*◌, ◌^◌, ◌<◌, ◌≤◌, ℕ, length, slice_index, sum};
 ghost use Rattle.page_store.specs.PageOrder.{AreSizes, IsArea, IsOfOnePart, area_pages, job_part, parts, part_of, start_of};
+ghost use Rattle.page_store.specs.Store.{IsTwin, twin_at, twin_number, twin_span};
+
+use crate::records::PAGE;
 
 /// How many tables a store has, and how many indexes.
 const TABLES: u32 = 16;
 
 /// How many jobs a store has.
 const JOBS: u32 = 8;
+
+/// The page at which the first slot of the catalogue begins.
+const CATALOGUE_AT: u32 = 1;
 
 /// The page behind the store head and the two slots of the catalogue.
 const TABLES_AT: u32 = 5;
@@ -37,6 +43,41 @@ pub enum Area {
     Out(u8),
     Image(u8, u8),
     Spill(u8),
+}
+
+/// What has a body that is replaced as a whole: the catalogue, and the head of a job, 0 to 7.
+#[derive(Clone, Copy, Debug, PartialEq, Eq)]
+pub enum Twin {
+    Catalogue,
+    Job(u8),
+}
+
+/// Where a twin begins on the disk, and how many bytes each of its two slots has.
+#[derive(Clone, Copy)]
+pub(crate) struct Place {
+    pub(crate) at: u64,
+    pub(crate) span: u64,
+}
+
+/// Where a twin stands.
+pub(crate) fn place_of(sizes: &Sizes, twin: Twin) -> Place
+    requires sizes { AreSizes sizes.now }
+    requires twin { IsTwin twin }
+    ensures at { result.at ≡ twin_at sizes.now (twin_number twin) }
+    ensures span { result.span ≡ twin_span (twin_number twin) }
+    ensures within { result.at + 2 * result.span ≤ 4096 * sum (parts sizes.now) }
+    ensures small { result.at < 2 ^ 35 }
+{
+    match twin {
+        Twin::Catalogue => Place {
+            at: PAGE * CATALOGUE_AT as u64,
+            span: 2 * PAGE,
+        },
+        Twin::Job(job) => Place {
+            at: PAGE * job_page(sizes, job) as u64,
+            span: PAGE,
+        },
+    }
 }
 
 /// The first page of an area.

@@ -1,18 +1,20 @@
 // The records of a store, as bytes in a page.
 
-ghost use Rattle.std.specs.Prelude.{◌≡◌, ℕ, ◌+◌, ◌^◌, ◌<◌, ◌≤◌, length, take, drop};
+ghost use Rattle.std.specs.Prelude.{◌≡◌, ℕ, ◌+◌, ◌-◌, ◌^◌, ◌<◌, ◌≤◌, length, take, drop, ◌&&◌, IsTrue, MatchOption, ⊤};
 ghost use Rattle.std.specs.Int.{bytes_low_first};
 ghost use Rattle.qsr_layout.specs.Page.{Holds, SameOutside};
 ghost use Rattle.qsr_layout.specs.StoreHead.{store_head_field};
 ghost use Rattle.qsr_layout.specs.SlotHead.{slot_head_field};
-ghost use Rattle.page_store.specs.Format.{head_rest, slot_bytes};
+ghost use Rattle.page_store.specs.Format.{behind_gate, head_rest, slot_front};
+ghost use Rattle.page_store.specs.Opening.{are_sizes, head_in, is_marked, is_size, sizes_in};
 ghost use Rattle.page_store.specs.PageOrder.{AreSizes};
+ghost use Rattle.page_store.specs.Twin.{number_in};
 
 use crate::Sizes;
 use qsr_layout::records::{
     SLOT_BODY_AT, SLOT_HEAD, STORE_HEAD, SlotHeadField, StoreHeadField, records_are_checked,
 };
-use qsr_layout::{PAGE_BYTES, write_field};
+use qsr_layout::{PAGE_BYTES, read_field, write_field};
 
 /// The gate of what is whole.
 pub(crate) const OPEN: u8 = 0xA5;
@@ -20,8 +22,17 @@ pub(crate) const OPEN: u8 = 0xA5;
 /// A gate is closed by this byte.
 pub(crate) const CLOSED: u8 = 0;
 
+/// How many bytes a page has.
+pub(crate) const PAGE: u64 = PAGE_BYTES as u64;
+
+/// How many bytes of a body stand in the first page of its slot.
+pub(crate) const FRONT_BYTES: usize = PAGE_BYTES - SLOT_BODY_AT;
+
 /// The text QSRSTOR1, its first letter as the lowest byte.
 const STORE_TEXT: u128 = 0x3152_4F54_5352_5351;
+
+/// An area has so many pages at most.
+const MOST_PAGES: u32 = 65_536;
 
 /// The version of the format.
 const VERSION: u128 = 1;
@@ -80,16 +91,89 @@ fn put_body(page: &mut [u8; PAGE_BYTES], body: &[u8])
     page[SLOT_BODY_AT..SLOT_BODY_AT + body.len()].copy_from_slice(body);
 }
 
-/// A page with a slot.
-pub(crate) fn slot_page(gate: u8, sequence: u8, body: &[u8]) -> [u8; PAGE_BYTES]
-    requires { length body.now ≤ 4088 }
-    ensures { take (SLOT_BODY_AT + length body.now) result ≡ slot_bytes gate sequence body.now }
+/// A page with the front of a slot, whose body has `len` bytes in all.
+pub(crate) fn slot_page(gate: u8, sequence: u8, len: u32, front: &[u8]) -> [u8; PAGE_BYTES]
+    requires { length front.now ≤ 4088 }
+    ensures slot { take (SLOT_BODY_AT + length front.now) result ≡ slot_front gate sequence len front.now }
+    ensures behind { take (SLOT_BODY_AT + length front.now - 1) (drop 1 result) ≡ behind_gate sequence len front.now }
 {
     let mut page = [0; PAGE_BYTES];
     put_slot_field(&mut page, SlotHeadField::Gate, gate as u128);
     put_slot_field(&mut page, SlotHeadField::Sequence, sequence as u128);
-    put_slot_field(&mut page, SlotHeadField::Length, body.len() as u128);
+    put_slot_field(&mut page, SlotHeadField::Length, len as u128);
     put_slot_field(&mut page, SlotHeadField::Zero, 0);
-    put_body(&mut page, body);
+    put_body(&mut page, front);
     page
+}
+
+/// The number in a field of the store head.
+fn head_field(page: &[u8; PAGE_BYTES], field: StoreHeadField) -> u128
+    ensures value { result ≡ number_in (store_head_field field) page.now }
+    ensures fits { result < 256 ^ (store_head_field field).bytes }
+{
+    records_are_checked();
+    read_field(&STORE_HEAD, field.index(), page)
+}
+
+/// Whether a number is one that an area may have of pages.
+fn is_size(pages: u32) -> bool
+    ensures { result ≡ is_size pages }
+{
+    1 <= pages && pages <= MOST_PAGES
+}
+
+/// Whether all sizes are such numbers.
+fn are_sizes(sizes: &Sizes) -> bool
+    ensures value { result ≡ are_sizes sizes.now }
+    ensures sizes { IsTrue result → AreSizes sizes.now }
+{
+    is_size(sizes.table)
+        && is_size(sizes.index)
+        && is_size(sizes.out)
+        && is_size(sizes.image)
+        && is_size(sizes.spill)
+}
+
+/// Whether the gate is open, and the text and the version are those of a store.
+fn is_marked(page: &[u8; PAGE_BYTES]) -> bool
+    ensures { result ≡ is_marked page.now }
+{
+    head_field(page, StoreHeadField::Gate) == OPEN as u128
+        && head_field(page, StoreHeadField::Text) == STORE_TEXT
+        && head_field(page, StoreHeadField::Version) == VERSION
+}
+
+/// The sizes in a store head.
+fn sizes_in(page: &[u8; PAGE_BYTES]) -> Sizes
+    ensures { result ≡ sizes_in page.now }
+{
+    Sizes {
+        table: head_field(page, StoreHeadField::TablePages) as u32,
+        index: head_field(page, StoreHeadField::IndexPages) as u32,
+        out: head_field(page, StoreHeadField::OutputPages) as u32,
+        image: head_field(page, StoreHeadField::ImagePages) as u32,
+        spill: head_field(page, StoreHeadField::SpillPages) as u32,
+    }
+}
+
+/// Whether the head of a store is marked as one and has these sizes.
+fn is_head(page: &[u8; PAGE_BYTES], sizes: &Sizes) -> bool
+    ensures value { result ≡ (is_marked page.now && are_sizes sizes.now) }
+    ensures sizes { IsTrue result → AreSizes sizes.now }
+{
+    is_marked(page) && are_sizes(sizes)
+}
+
+/// The sizes of the store whose head these bytes are, if they are one.
+#[tactic(auto, unfolding(crate::specs::Opening::head_in))]
+pub(crate) fn head_in(page: &[u8; PAGE_BYTES]) -> Option<Sizes>
+    ensures value { result ≡ head_in page.now }
+    ensures sizes { MatchOption result ⊤ (λ sizes. AreSizes sizes) }
+{
+    let sizes = sizes_in(page);
+    if is_head(page, &sizes) {
+        Some(sizes)
+    } else {
+        None
+    }
 }

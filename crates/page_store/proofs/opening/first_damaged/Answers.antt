@@ -1,0 +1,35 @@
+use Rattle.std.proofs.Common.{◌≡◌, ◌/◌, ◌∙◌, ap, refl, arith, true, false, is_some, subst}
+use Rattle.disk_model.specs.Image.{Image}
+use Rattle.disk_model.proofs.Runs.{stays_twice}
+use Rattle.page_store.specs.Store.{twin_at, twin_span}
+use Rattle.page_store.specs.Twin.{twin_body}
+use Rattle.page_store.proofs.StoreCommits.{damaged_here, whole_more}
+use Rattle.page_store.proofs.opening.first_damaged.Goals as goal
+
+pub returns-then-not-branch-clause-found : goal.returns-then-not-branch-clause-found
+returns-then-not-branch-clause-found g c = λ honest.
+    let run = c.loop-number.invariant.stays in
+    let sizes = c.args.sizes.now in
+    let place = c.place_of-place.result in
+    let seen = c.in_ok-has_current.ensures.current (run.time.honest.1 honest) in
+    damaged_here sizes c.loop-number.number place.span place.at (place.at / 4096) (g.D.Disk.view c.args.disk.now).seen (omega arith)
+    (c.place_of-place.ensures.span ∙ ap twin_span c.twin_of.ensures.number) (c.place_of-place.ensures.at ∙ ap (twin_at sizes) c.twin_of.ensures.number) refl
+    (c.loop-number.invariant.whole honest)
+    (let is = c.if-not-branch.true in subst (λ (s : Image). false ≡ is_some (twin_body place.span place.at s)) run.seen (cc))
+
+pub loop-number-preserved : goal.loop-number-preserved
+loop-number-preserved g c =
+    let run = c.loop-number.invariant.stays in
+    let sizes = c.args.sizes.now in
+    let place = c.place_of-place.result in
+    record {
+      stays = stays_twice run c.has_current.ensures.stays;
+      whole = λ honest.
+          let seen = c.in_ok-has_current.ensures.current (run.time.honest.1 honest) in
+          whole_more sizes c.loop-number.number place.span place.at (g.D.Disk.view c.args.disk.now).seen (omega arith)
+          (c.place_of-place.ensures.span ∙ ap twin_span c.twin_of.ensures.number) (c.place_of-place.ensures.at ∙ ap (twin_at sizes) c.twin_of.ensures.number)
+          (c.loop-number.invariant.whole honest)
+          (let is = c.if-not-branch.false in subst (λ (s : Image). true ≡ is_some (twin_body place.span place.at s)) run.seen (cc));
+      size = c.has_current.ensures.size ∙ c.loop-number.invariant.size;
+      faults = c.in_ok-has_current.ensures.faults ∙ c.loop-number.invariant.faults;
+    }

@@ -1,0 +1,66 @@
+use Rattle.std.proofs.Common.{◌+◌, length, arith}
+use Rattle.std.proofs.lemmas.Result.{on_ok_weaker}
+use Rattle.disk_model.specs.Image.{Image, Holds}
+use Rattle.disk_model.proofs.Runs.{each_now, then_stays, synced_each}
+use Rattle.page_store.specs.Format.{behind_gate}
+use Rattle.page_store.proofs.TwinRuns.{behind_run, holds_behind, keeps_stays, keeps_step, keeps_twice, keeps_wider, opening_run}
+use Rattle.page_store.proofs.twins.replace.Goals as goal
+
+pub returns-in_err-shut-clause-keeps : goal.returns-in_err-shut-clause-keeps
+returns-in_err-shut-clause-keeps g c =
+    keeps_wider c.args.stale.now.slot 1 c.args.stale.now.slot (8 + length c.args.body.now) (omega arith) (omega arith) c.shut.ensures.keeps
+
+pub returns-in_err-write_behind-clause-any_moment : goal.returns-in_err-write_behind-clause-any_moment
+returns-in_err-write_behind-clause-any_moment g c = λ stands.
+    behind_run c.args.stale.now.slot (7 + length c.args.body.now) (behind_gate c.args.stale.now.sequence (length c.args.body.now) c.args.body.now)
+    (c.shut.ensures.any_moment stands) (c.in_ok-shut.ensures.closed stands) c.write_behind.ensures.steps
+
+pub returns-in_err-write_behind-clause-keeps : goal.returns-in_err-write_behind-clause-keeps
+returns-in_err-write_behind-clause-keeps g c =
+    let slot = c.args.stale.now.slot in
+    let n = length c.args.body.now in
+    keeps_twice slot (8 + n) (keeps_wider slot 1 slot (8 + n) (omega arith) (omega arith) c.shut.ensures.keeps)
+    (keeps_wider (slot + 1) (7 + n) slot (8 + n) (omega arith) (omega arith) (keeps_step (slot + 1) (7 + n) c.write_behind.ensures.steps))
+
+pub returns-in_err-sync-clause-any_moment : goal.returns-in_err-sync-clause-any_moment
+returns-in_err-sync-clause-any_moment g c = λ stands.
+    then_stays (behind_run c.args.stale.now.slot (7 + length c.args.body.now) (behind_gate c.args.stale.now.sequence (length c.args.body.now) c.args.body.now)
+    (c.shut.ensures.any_moment stands) (c.in_ok-shut.ensures.closed stands) c.write_behind.ensures.steps) c.sync.ensures.stays
+
+pub returns-in_err-sync-clause-keeps : goal.returns-in_err-sync-clause-keeps
+returns-in_err-sync-clause-keeps g c =
+    let slot = c.args.stale.now.slot in
+    let n = length c.args.body.now in
+    keeps_twice slot (8 + n) (keeps_twice slot (8 + n) (keeps_wider slot 1 slot (8 + n) (omega arith) (omega arith) c.shut.ensures.keeps)
+    (keeps_wider (slot + 1) (7 + n) slot (8 + n) (omega arith) (omega arith) (keeps_step (slot + 1) (7 + n) c.write_behind.ensures.steps)))
+    (keeps_stays slot (8 + n) c.sync.ensures.stays)
+
+pub returns-clause-any_moment : goal.returns-clause-any_moment
+returns-clause-any_moment g c = λ stands.
+    let slot = c.args.stale.now.slot in
+    let bytes = behind_gate c.args.stale.now.sequence (length c.args.body.now) c.args.body.now in
+    opening_run slot bytes
+    (then_stays (behind_run slot (7 + length c.args.body.now) bytes (c.shut.ensures.any_moment stands) (c.in_ok-shut.ensures.closed stands) c.write_behind.ensures.steps) c.sync.ensures.stays)
+    (synced_each (λ (i : Image). Holds i (slot + 1) bytes) c.sync.ensures.stays c.in_ok-sync.ensures.synced
+    (λ honest. c.in_ok-write_behind.ensures.bytes (c.write_behind.ensures.steps.time.honest.0 honest)))
+    c.unlock.ensures.keeps
+
+pub returns-clause-replaced : goal.returns-clause-replaced
+returns-clause-replaced g c =
+    let slot = c.args.stale.now.slot in
+    let bytes = behind_gate c.args.stale.now.sequence (length c.args.body.now) c.args.body.now in
+    let stands = synced_each (λ (i : Image). Holds i (slot + 1) bytes) c.sync.ensures.stays c.in_ok-sync.ensures.synced
+    (λ honest. c.in_ok-write_behind.ensures.bytes (c.write_behind.ensures.steps.time.honest.0 honest)) in
+    on_ok_weaker c.unlock.result
+    (λ opened i now. let old = each_now c.unlock.ensures.keeps.time i now in holds_behind slot bytes old.0 i old.2 (stands old.0 old.1))
+    c.unlock.ensures.opened
+
+pub returns-clause-keeps : goal.returns-clause-keeps
+returns-clause-keeps g c =
+    let slot = c.args.stale.now.slot in
+    let n = length c.args.body.now in
+    keeps_twice slot (8 + n)
+    (keeps_twice slot (8 + n) (keeps_twice slot (8 + n) (keeps_wider slot 1 slot (8 + n) (omega arith) (omega arith) c.shut.ensures.keeps)
+    (keeps_wider (slot + 1) (7 + n) slot (8 + n) (omega arith) (omega arith) (keeps_step (slot + 1) (7 + n) c.write_behind.ensures.steps)))
+    (keeps_stays slot (8 + n) c.sync.ensures.stays))
+    (keeps_wider slot 1 slot (8 + n) (omega arith) (omega arith) c.unlock.ensures.keeps)
