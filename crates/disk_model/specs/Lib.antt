@@ -1,4 +1,5 @@
 pub mod Image
+pub mod Lifted
 pub mod MemDisk
 pub mod Positioned
 pub mod Replay

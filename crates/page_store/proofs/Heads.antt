@@ -8,7 +8,8 @@ use Rattle.qsr_layout.specs.declared.records.StoreHeadField.TheVariants.{Gate, T
 use Rattle.page_store.specs.PageOrder.{parts}
 use Rattle.page_store.specs.declared.pages.Sizes.{Sizes}
 use Rattle.page_store.specs.declared.records.TheConstants.{OPEN, STORE_TEXT, VERSION}
-use Rattle.page_store.specs.Opening.{HasNoHead, are_sizes, head_in, sizes_in, store_head}
+use Rattle.page_store.specs.Head.{are_sizes, head_in, sizes_in, store_head}
+use Rattle.page_store.specs.Opening.{HasNoHead}
 use Rattle.page_store.specs.Twin.{bytes_at, number_in}
 use Rattle.page_store.proofs.PageLaws.{sum-parts}
 use Rattle.page_store.proofs.SlotBytes.{bytes_at-get}

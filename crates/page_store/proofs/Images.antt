@@ -1,9 +1,8 @@
 -- What writes leave of a store that is being made.
-use Rattle.std.proofs.Common.{◌≡◌, ◌⊎◌, ℕ, zero, suc, ◌+◌, ◌*◌, ◌<◌, ◌≤◌, List, [], ◌∷◌, length, slice_index, refl, ap, sym, subst, inl, inr, ⊎_elim, arith, ◌∙◌}
+use Rattle.std.proofs.Common.{◌≡◌, ◌⊎◌, ℕ, zero, suc, ◌+◌, ◌*◌, ◌<◌, ◌≤◌, List, [], ◌∷◌, length, slice_index, refl, ap, sym, subst, inl, inr, arith, ◌∙◌}
 use Rattle.std.proofs.lemmas.Bool.Decides.{eqb_tells}
 use Rattle.disk_model.specs.Image.{Image, Holds, SameOutside}
-use Rattle.disk_model.specs.View.{View, After, EachImage, IsSynced, LeavesOnly, Steps}
-use Rattle.disk_model.proofs.Runs.{weaker_run}
+use Rattle.disk_model.specs.View.{View, After, EachImage}
 use Rattle.page_store.specs.declared.pages.Sizes.{Sizes}
 use Rattle.page_store.specs.declared.records.TheConstants.{OPEN, CLOSED}
 use Rattle.page_store.specs.Format.{IsNew, IsNewJob, IsNewTwin, IsNoStore, IsWritten, SameBelow, empty_catalogue, free_head, head_bytes, behind_gate, head_rest, slot_bytes, slot_front}
@@ -61,28 +60,6 @@ twin_written c d first second body order long slot same closed = record {
 -- the gate of a store stays as it is
 pub no_store_kept : (c d : Image) → IsNoStore c → SameBelow 1 c d → IsNoStore d
 no_store_kept c d closed same = λ is_open. closed (sym (same.each 0 (omega arith)) ∙ is_open)
-
-same_byte : (c d : Image) → SameOutside 0 1 d c → c 0 ≡ d 0 → (i : ℕ) → c i ≡ d i
-same_byte c d same gate zero = gate
-same_byte c d same gate (suc i) = same.above (suc i) (omega arith)
-
--- an image that differs at most in its first byte, and has that byte too
-one_byte : (c d : Image) → SameOutside 0 1 d c → c 0 ≡ d 0 → c ≡ d
-one_byte c d same gate = λ k i. same_byte c d same gate i k
-
--- The gate was open, and another byte is written over it. Where a crash leaves it open, all is as it was.
-closes : (c d : Image) → SameOutside 0 1 d c → d 0 ≡ OPEN → (c ≡ d) ⊎ IsNoStore c
-closes c d same was_open = elim (eqb_tells (c 0) OPEN) [
-  | inl still ↦ inl (one_byte c d same (still.1 ∙ sym was_open))
-  | inr closed ↦ inr closed.1
-]
-
-pub closing : {a b : View Image} → Steps (SameOutside 0 1) a b → IsSynced a → (a.honest → a.seen 0 ≡ OPEN)
-    → LeavesOnly a b (λ c. a.now c ⊎ IsNoStore c)
-closing {a = a} steps synced was_open = weaker_run steps.time (λ c now.
-    let old = steps.crash c now in
-    let gate : old.0 0 ≡ OPEN = ap (λ (s : Image). s 0) (synced old.0 old.1) ∙ was_open (a.honest_if_left old.0 old.1) in
-    ⊎_elim (λ same. inl (subst a.now (sym same) old.1)) (λ closed. inr closed) (closes c old.0 old.2 gate))
 
 -- all parts of a store but its gate
 pub parts_written : (sizes : Sizes) (a b c : Image) → Holds a 1 (head_rest sizes) → SameBelow 4096 a b → IsNewTwin b 1 3 empty_catalogue

@@ -1,8 +1,9 @@
 pub mod AreaLaws
 pub mod Commits
+pub mod Counts
 pub mod Heads
 pub mod Images
-pub mod LiftedRuns
+pub mod NewStores
 pub mod PageBytes
 pub mod PageLaws
 pub mod Parts

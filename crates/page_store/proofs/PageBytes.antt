@@ -1,32 +1,7 @@
--- Bytes of a page, put together from the fields that were written.
-use Rattle.std.proofs.Common.{◌≡◌, ℕ, ◌+◌, ◌-◌, ◌<◌, ◌≤◌, List, ◌++◌, length, take, drop, slice_index, get_or, length-append, length-drop, arith, ap, sym, refl, inl, inr, ◌∙◌}
-use Rattle.std.proofs.lemmas.Bool.{cases_lt}
-use Rattle.std.proofs.lemmas.List.{ext_get_or, get_or_append_left, get_or-take, get_or-drop, get_or-append_right, length-take-le}
+-- Bytes of a page that others were put over.
+use Rattle.std.proofs.Common.{◌≡◌, ℕ, ◌+◌, ◌<◌, ◌≤◌, List, length, get_or, arith}
 use Rattle.std.proofs.lemmas.Grind.{common_steps}
 use borrow.Rule.Slice.PartMut.{put_mid}
-use Rattle.qsr_layout.specs.Page.{Holds, SameOutside}
-
--- one field more, behind those that stand there
-pub holds_more : (page new front more : List ℕ) (from at n : ℕ) → from + length front ≡ at
-    → Holds page from front → Holds new at more → SameOutside at n page new → Holds new from (front ++ more)
-holds_more page new front more from at n here front_stands more_stands same = record {
-  each = λ k inside. elim (cases_lt k (length front)) [
-    | inl before ↦ same.below (from + k) (omega arith) ∙ front_stands.each k before ∙ sym (get_or_append_left front more 0 k before)
-    | inr behind ↦
-        let place : from + k ≡ at + (k - length front) = omega arith in
-        ap (slice_index new) place
-        ∙ more_stands.each (k - length front) (omega (arith, inside, length-append front more))
-        ∙ sym (get_or-append_right front more (length front) k 0 refl behind)
-  ];
-}
-
--- the bytes that stand there, as a list
-pub is_part : (page bytes : List ℕ) (at n : ℕ) → n ≡ length bytes → at + n ≤ length page → Holds page at bytes → take n (drop at page) ≡ bytes
-is_part page bytes at n long within stands =
-    let rest = length-drop at page in
-    let count : length (take n (drop at page)) ≡ n = length-take-le n (drop at page) (omega (arith, rest, within)) in
-    ext_get_or 0 (take n (drop at page)) bytes (count ∙ long)
-    (λ i inside. get_or-take n (drop at page) i 0 (omega (arith, inside, count)) ∙ get_or-drop at page i 0 ∙ stands.each i (omega (arith, inside, count, long)))
 
 -- bytes put over others leave those below and above
 pub get_below : (xs ys : List ℕ) (at n i : ℕ) → i < at → at ≤ length xs → get_or (put_mid at n xs ys) i 0 ≡ get_or xs i 0

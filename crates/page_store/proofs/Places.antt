@@ -21,6 +21,19 @@ catalogue_size : (sizes : Sizes) → slice_index (parts sizes) 2 ≡ 2
 unfolding parts
 catalogue_size sizes = refl
 
+-- the first page is the store head's
+pub behind_head : (sizes : Sizes) (q : ℕ) → 0 < q → 1 ≤ start_of (parts sizes) q
+unfolding parts
+behind_head sizes zero some = absurd (omega arith)
+behind_head sizes (suc q) some = omega arith
+
+part_some : (k : ℕ) → 0 < twin_part k
+part_some zero = omega arith
+part_some (suc job) = omega arith
+
+pub twin_behind_head : (sizes : Sizes) (k : ℕ) → 4096 ≤ twin_at sizes k
+twin_behind_head sizes k = omega (arith, behind_head sizes (twin_part k) (part_some k))
+
 -- a twin ends before a part behind its slots
 pub twin_before : (sizes : Sizes) (k q : ℕ) → k < 9 → twin_part k + 1 < q → twin_at sizes k + 2 * twin_span k ≤ 4096 * start_of (parts sizes) q
 twin_before sizes zero q some behind =
@@ -50,7 +63,7 @@ twins_apart (suc k) (suc j) before = omega arith
 pub area_below : (a : ℕ) → is_area_part a ≡ true → a < 99
 area_below a is = grind (arith, nat_tests)
 
-area_above : (a : ℕ) → is_area_part a ≡ true → 3 ≤ a
+pub area_above : (a : ℕ) → is_area_part a ≡ true → 3 ≤ a
 area_above a is = grind (arith, nat_tests)
 
 in_job : (a : ℕ) → is_area_part a ≡ true → (a < 35) ⊎ (2 ≤ (a - 35) % 8)

@@ -1,8 +1,9 @@
 -- A commit, told of the bodies that the twins stand for.
-use Rattle.std.proofs.Common.{◌≡◌, ℕ, ◌+◌, ◌*◌, ◌<◌, true, false, ◌/◌, List, Option, Some, None, is_some, refl, sym, ap, subst, inl, inr, ⊎_elim, arith, ◌∙◌}
+use Rattle.std.proofs.Common.{◌≡◌, ℕ, ◌+◌, ◌*◌, ◌<◌, true, false, ◌/◌, List, sum, Option, Some, None, MatchOption, is_some, refl, sym, ap, subst, inl, inr, ⊎_elim, arith, ◌∙◌}
 use Rattle.std.proofs.lemmas.Bool.Decides.{eqb_tells, nat_tests}
+use Rattle.std.specs.Bool.{⊤}
 use Rattle.std.specs.Option.{IsSome}
-use Rattle.page_store.specs.Opening.{AreWhole, IsDamagedTwin, IsStore}
+use Rattle.page_store.specs.Opening.{AreWhole, HasNoHead, IsDamaged, IsDamagedTwin, IsNone, IsStore}
 use Rattle.disk_model.specs.Image.{Image}
 use Rattle.disk_model.specs.View.{View, After, EachImage, IsSynced, LeavesOnly}
 use Rattle.page_store.specs.declared.pages.Sizes.{Sizes}
@@ -10,12 +11,12 @@ use Rattle.page_store.specs.declared.pages.Area.{Area}
 use Rattle.page_store.specs.declared.pages.Area.TheVariants.{Table, Index, Text, Plan, Out, Image as ImageArea, Spill}
 use Rattle.page_store.specs.declared.pages.Twin.{Twin}
 use Rattle.page_store.specs.declared.pages.Twin.TheVariants.{Catalogue, Job}
-use Rattle.page_store.specs.PageOrder.{IsArea, part_of}
-use Rattle.page_store.specs.Lifted.{lifted}
+use Rattle.page_store.specs.PageOrder.{IsArea, part_of, parts}
+use Rattle.disk_model.specs.Lifted.{lifted}
 use Rattle.page_store.specs.Store.{BeforeOrAfter, BodyReplaced, IsTwin, TwinChanged, contents_of, contents_view, is_area_part, twin_at, twin_number, twin_span}
 use Rattle.page_store.specs.Twin.{IsCommitted, IsOldOrNew, IsTwinReady, KeepsOutside, twin_body}
-use Rattle.page_store.proofs.LiftedRuns.{lifted_each, lifted_leaves}
-use Rattle.page_store.proofs.StoreContents.{body_is, body_replaced, nothing_changed, ready_apart, ready_committed, span_some, twin_changed, twins_in_order}
+use Rattle.disk_model.proofs.LiftedRuns.{lifted_each, lifted_leaves}
+use Rattle.page_store.proofs.StoreContents.{body_is, body_replaced, head_is, nothing_changed, ready_apart, ready_committed, span_some, twin_changed, twins_in_order}
 
 pub number_small : (t : Twin) → IsTwin t → twin_number t < 9
 number_small Catalogue is = omega arith
@@ -92,9 +93,16 @@ is_none : {A : Type 0} (o : Option A) → false ≡ is_some o → o ≡ None
 is_none None is = refl
 is_none (Some x) is = cc
 
+some_same : {A : Type 0} (x y : A) → Some x ≡ Some y → x ≡ y
+some_same x y same = cc
+
+not_none : {A : Type 0} (o : Option A) → o ≡ None → IsSome o → ⊥
+not_none None is some = cc
+not_none (Some x) is some = cc
+
 -- a twin with no current slot, behind some that have one
 pub damaged_here : (sizes : Sizes) (k span at page : ℕ) (c : Image) → k < 9 → span ≡ twin_span k → at ≡ twin_at sizes k → page ≡ at / 4096
-    → AreWhole sizes k c → false ≡ is_some (twin_body span at c) → IsDamagedTwin sizes page c
+    → AreWhole k (contents_of sizes c) → false ≡ is_some (twin_body span at c) → IsDamagedTwin sizes page (contents_of sizes c)
 damaged_here sizes k span at page c some span_is at_is page_is whole none = record {
   twin = k;
   some = some;
@@ -103,9 +111,22 @@ damaged_here sizes k span at page c some span_is at_is page_is whole none = reco
   first = omega (arith, page_is, at_is);
 }
 
+-- where no head stands, or one twin has no current slot, there is no store of whatever sizes
+pub none_by_head : (size : ℕ) (c : Image) → HasNoHead size c → IsNone size c
+none_by_head size c none = λ sizes store.
+    let small = subst (λ (o : Option Sizes). MatchOption o ⊤ (λ s. size < 4096 * sum (parts s))) (sym (head_is sizes c) ∙ store.head) none in
+    let fits = store.fits in
+    absurd (omega arith)
+
+pub none_by_twin : (size page : ℕ) (c : Image) → IsDamaged size page c → IsNone size c
+none_by_twin size page c damaged = λ sizes store.
+    let same : damaged.sizes ≡ sizes = some_same damaged.sizes sizes (sym damaged.head ∙ sym (head_is sizes c) ∙ store.head) in
+    let none = subst (λ (s : Sizes). (contents_of s c).body damaged.damaged.twin ≡ None) same damaged.damaged.none in
+    not_none ((contents_of sizes c).body damaged.damaged.twin) none (store.twins damaged.damaged.twin damaged.damaged.some)
+
 -- one twin more that has a current slot
 pub whole_more : (sizes : Sizes) (n span at : ℕ) (c : Image) → n < 9 → span ≡ twin_span n → at ≡ twin_at sizes n
-    → AreWhole sizes n c → true ≡ is_some (twin_body span at c) → AreWhole sizes (n + 1) c
+    → AreWhole n (contents_of sizes c) → true ≡ is_some (twin_body span at c) → AreWhole (n + 1) (contents_of sizes c)
 whole_more sizes n span at c some span_is at_is whole here k below = elim (eqb_tells k n) [
   | inl same ↦ subst (λ (j : ℕ). IsSome ((contents_of sizes c).body j)) (sym same.1)
       (subst (λ (o : Option (List ℕ)). IsSome o) (sym (body_here sizes n span at c some span_is at_is)) (sym here))
@@ -113,7 +134,7 @@ whole_more sizes n span at c some span_is at_is whole here k below = elim (eqb_t
 ]
 
 -- what is opened is ready
-pub opened_ready : (v : View Image) (size : ℕ) (sizes : Sizes) → IsSynced v → (v.honest → IsStore size sizes v.seen)
+pub opened_ready : (v : View Image) (size : ℕ) (sizes : Sizes) → IsSynced v → (v.honest → IsStore size sizes (contents_of sizes v.seen))
     → (k : ℕ) → k < 9 → IsTwinReady (twin_span k) (twin_at sizes k) v
 opened_ready v size sizes synced store k some = record {
   settled = λ c now i low high. ap (λ (s : Image). s i) (synced c now);
@@ -122,3 +143,12 @@ opened_ready v size sizes synced store k some = record {
       subst (λ (s : Image). IsSome (twin_body (twin_span k) (twin_at sizes k) s)) (sym (synced c now))
       (subst (λ (o : Option (List ℕ)). IsSome o) (body_is sizes v.seen k some) (is.twins k some));
 }
+
+-- the sizes of the store that is read are those that the head of each image told
+pub sizes_told : (v : View Image) (size : ℕ) (s t : Sizes) → EachImage (contents_view s v) (λ m. m.head ≡ Some s)
+    → (v.honest → IsStore size t (contents_of t v.seen)) → v.honest → t ≡ s
+unfolding contents_view
+sizes_told v size s t told store honest =
+    let old = told (contents_of s v.seen) (v.seen, v.seen_may_stay honest, λ _. contents_of s v.seen) in
+    let new = store honest in
+    some_same t s (sym new.head ∙ head_is t v.seen ∙ sym (head_is s v.seen) ∙ old)

@@ -8,13 +8,15 @@ use Rattle.disk_model.specs.View.{View, EachImage, IsSynced, Stays}
 use Rattle.disk_model.proofs.Runs.{each_now}
 use Rattle.page_store.specs.declared.pages.Sizes.{Sizes}
 use Rattle.page_store.specs.declared.slots.SlotHead.{SlotHead}
+use Rattle.page_store.specs.Head.{head_in, store_head}
 use Rattle.page_store.specs.PageOrder.{parts, start_of}
 use Rattle.page_store.specs.Store.{AreaHolds, AreaWritten, BodyReplaced, Contents, TwinChanged, contents_of, is_area_part, twin_at, twin_part, twin_span}
 use Rattle.page_store.specs.Twin.{IsCommitted, IsTwinReady, KeepsOutside, SameWithin, body_at, head_at, is_current, twin_body}
 use Rattle.page_store.proofs.Commits.{body_same, head_same}
 use Rattle.page_store.proofs.Parts.{apart}
 use Rattle.page_store.proofs.AreaLaws.{length-parts}
-use Rattle.page_store.proofs.Places.{area_apart, area_below, twin_before, twin_behind, twins_apart}
+use Rattle.page_store.proofs.Places.{area_above, area_apart, area_below, behind_head, twin_before, twin_behind, twin_behind_head, twins_apart}
+use Rattle.page_store.proofs.SlotBytes.{bytes_at-same}
 use Rattle.page_store.proofs.TwinLaws.{current_told}
 
 picks_same : {T : Type 0} (a b : Bool) (x y u v : T) → (a ≡ true → x ≡ u) → (b ≡ true → y ≡ v)
@@ -82,6 +84,11 @@ area_kept : (sizes : Sizes) (d c : Image) (a : ℕ)
     → (i : ℕ) → (contents_of sizes c).area a i ≡ (contents_of sizes d).area a i
 area_kept sizes d c a same i = byte_kept sizes d c a i (λ is inside. same is (4096 * start_of (parts sizes) a + i) (omega arith) (omega arith))
 
+-- the store head is in the first page
+head_kept : (sizes : Sizes) (d c : Image) → SameWithin 0 4096 d c → (contents_of sizes c).head ≡ (contents_of sizes d).head
+unfolding contents_of
+head_kept sizes d c same = ap head_in (bytes_at-same d c 0 31 (λ i low high. same i (omega arith) (omega arith)))
+
 areas_in_order : (sizes : Sizes) (a b : ℕ) → is_area_part a ≡ true → is_area_part b ≡ true → b ≢ a
     → (4096 * start_of (parts sizes) a + 4096 * slice_index (parts sizes) a ≤ 4096 * start_of (parts sizes) b)
     ⊎ (4096 * start_of (parts sizes) b + 4096 * slice_index (parts sizes) b ≤ 4096 * start_of (parts sizes) a)
@@ -103,6 +110,10 @@ write_apart sizes a at n k is within some = ⊎_elim (λ before. inl (omega arit
 pub area_written : (sizes : Sizes) (a at n : ℕ) → is_area_part a ≡ true → at + n ≤ 4096 * slice_index (parts sizes) a
     → (d c : Image) → SameOutside (4096 * start_of (parts sizes) a + at) n d c → AreaWritten a at n (contents_of sizes d) (contents_of sizes c)
 area_written sizes a at n is within d c same = record {
+  head =
+      let some = area_above a is in
+      let behind = behind_head sizes a (omega (arith, some)) in
+      head_kept sizes d c (apart_same (4096 * start_of (parts sizes) a + at) n 0 4096 d c (inr (omega (arith, behind))) same);
   bodies = λ p k. body_kept sizes d c k (λ some. apart_same (4096 * start_of (parts sizes) a + at) n (twin_at sizes k) (2 * twin_span k) d c
       (write_apart sizes a at n k is within some) same) p;
   others = λ b other. λ p i. area_kept sizes d c b (λ b_is. apart_same (4096 * start_of (parts sizes) a + at) n (4096 * start_of (parts sizes) b) (4096 * slice_index (parts sizes) b) d c
@@ -121,6 +132,7 @@ twins_in_order sizes k j k_is j_is other = elim (cases_lt k j) [
 pub twin_changed : (sizes : Sizes) (k : ℕ) → k < 9 → (d c : Image) → SameOutside (twin_at sizes k) (2 * twin_span k) d c
     → TwinChanged k (contents_of sizes d) (contents_of sizes c)
 twin_changed sizes k some d c same = record {
+  head = head_kept sizes d c (apart_same (twin_at sizes k) (2 * twin_span k) 0 4096 d c (inr (omega (arith, twin_behind_head sizes k))) same);
   areas = λ p a i. area_kept sizes d c a (λ is. apart_same (twin_at sizes k) (2 * twin_span k) (4096 * start_of (parts sizes) a) (4096 * slice_index (parts sizes) a) d c
       (⊎_elim (λ before. inr before) (λ behind. inl behind) (area_or_twin sizes a k is some)) same) i p;
   others = λ j other. body_kept sizes d c j (λ j_is. apart_same (twin_at sizes k) (2 * twin_span k) (twin_at sizes j) (2 * twin_span j) d c
@@ -131,14 +143,18 @@ pub body_is : (sizes : Sizes) (c : Image) (k : ℕ) → k < 9 → (contents_of s
 unfolding contents_of
 body_is sizes c k some = let is : nat_lt k 9 ≡ true = grind (arith, nat_tests) in rw is refl
 
+pub head_is : (sizes : Sizes) (c : Image) → (contents_of sizes c).head ≡ store_head c
+unfolding contents_of
+head_is sizes c = refl
+
 pub body_replaced : (sizes : Sizes) (k : ℕ) (body : List ℕ) → k < 9 → (d c : Image) → SameOutside (twin_at sizes k) (2 * twin_span k) d c
     → twin_body (twin_span k) (twin_at sizes k) c ≡ Some body → BodyReplaced k body (contents_of sizes d) (contents_of sizes c)
 body_replaced sizes k body some d c same is =
     let changed = twin_changed sizes k some d c same in
-    record { areas = changed.areas; others = changed.others; replaced = body_is sizes c k some ∙ is }
+    record { head = changed.head; areas = changed.areas; others = changed.others; replaced = body_is sizes c k some ∙ is }
 
-contents_same : (m n : Contents) → m.area ≡ n.area → m.body ≡ n.body → m ≡ n
-contents_same m n areas bodies = λ p. record { body = bodies p; area = areas p }
+contents_same : (m n : Contents) → m.head ≡ n.head → m.area ≡ n.area → m.body ≡ n.body → m ≡ n
+contents_same m n head areas bodies = λ p. record { head = head p; body = bodies p; area = areas p }
 
 all_bodies : (sizes : Sizes) (k : ℕ) → k < 9 → (d c : Image) → TwinChanged k (contents_of sizes d) (contents_of sizes c)
     → twin_body (twin_span k) (twin_at sizes k) c ≡ twin_body (twin_span k) (twin_at sizes k) d → (j : ℕ) → (contents_of sizes c).body j ≡ (contents_of sizes d).body j
@@ -151,7 +167,7 @@ pub nothing_changed : (sizes : Sizes) (k : ℕ) → k < 9 → (d c : Image) → 
     → twin_body (twin_span k) (twin_at sizes k) c ≡ twin_body (twin_span k) (twin_at sizes k) d → contents_of sizes c ≡ contents_of sizes d
 nothing_changed sizes k some d c same is =
     let changed = twin_changed sizes k some d c same in
-    contents_same (contents_of sizes c) (contents_of sizes d) changed.areas (λ p j. all_bodies sizes k some d c changed is j p)
+    contents_same (contents_of sizes c) (contents_of sizes d) changed.head changed.areas (λ p j. all_bodies sizes k some d c changed is j p)
 
 -- twins stay ready
 pub ready_stays : {a b : View Image} (span at : ℕ) → Stays a b → IsTwinReady span at a → IsTwinReady span at b

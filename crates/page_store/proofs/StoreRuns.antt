@@ -1,10 +1,12 @@
 -- The stages in which a store is made: what a crash at any moment leaves, from one to the next.
-use Rattle.std.proofs.Common.{◌≡◌, ◌⊎◌, ℕ, inl, inr, ⊎_elim, ap, sym, ◌∙◌}
+use Rattle.std.proofs.Common.{◌≡◌, ◌⊎◌, ℕ, ◌==◌, Bool, if◌then◌else◌, inl, inr, ⊎_elim, ap, sym, ◌∙◌}
+use Rattle.std.proofs.lemmas.Bool.Decides.{eqb_tells}
 use Rattle.disk_model.specs.Image.{Image, SameOutside}
 use Rattle.disk_model.specs.View.{View, After, EachImage, LeavesOnly, Stays, Steps}
 use Rattle.disk_model.proofs.Runs.{and_then, weaker_run}
-use Rattle.qsr_value.specs.Causes.{count_behind}
+use Rattle.qsr_value.specs.Causes.{count_behind, next_count}
 use Rattle.page_store.specs.declared.pages.Sizes.{Sizes}
+use Rattle.page_store.specs.declared.records.TheConstants.{OPEN}
 use Rattle.page_store.specs.Format.{IsNoStore, IsOldNoneOrNew, IsWritten, SameBelow, WritesByGate}
 use Rattle.page_store.proofs.Images.{no_store_kept, opening}
 
@@ -30,13 +32,14 @@ pub open_run : {a b c : View Image} (sizes : Sizes) → LeavesOnly a b (IsOldNon
     → LeavesOnly b c (After (SameOutside 0 1) b) → LeavesOnly a c (IsOldNoneOrNew a sizes)
 open_run {b = b} sizes run written opens = and_then run opens (λ i after. inr (opening sizes b written i after))
 
--- how many writes were made
-pub all_writes : {a b : View Image} (old mid closed new : ℕ) → Stays a b → mid ≡ old → WritesByGate 0 b mid closed → new ≡ count_behind 20 closed → WritesByGate 20 a old new
-all_writes old mid closed new stays same (inl shut) more =
-    inl (more ∙ ap (count_behind 20) (shut.0 ∙ same), λ honest. λ is. shut.1 (stays.time.honest.1 honest) (ap (λ (s : Image). s 0) stays.seen ∙ is))
-all_writes old mid closed new stays same (inr opened) more =
-    inr (more ∙ ap (count_behind 20) (opened.0 ∙ ap (count_behind 1) same), λ honest. ap (λ (s : Image). s 0) (sym stays.seen) ∙ opened.1 (stays.time.honest.1 honest))
-
--- the gate that was read is still there
-pub gate_read : {a b : View Image} (gate : ℕ) → Stays a b → (a.honest → a.seen 0 ≡ gate) → b.honest → b.seen 0 ≡ gate
-gate_read gate stays reads = λ honest. ap (λ (s : Image). s 0) stays.seen ∙ reads (stays.time.honest.0 honest)
+-- how many writes were made, by the gate that was read
+pub all_writes : (a : View Image) (gate old mid closed new : ℕ) → (a.honest → a.seen 0 ≡ gate) → mid ≡ old
+    → closed ≡ (if gate == OPEN then next_count mid else mid) → new ≡ count_behind 20 closed → WritesByGate 20 a old new
+all_writes a gate old mid closed new stood same shut more = elim (eqb_tells gate OPEN) [
+  | inl is ↦
+      let one = shut ∙ ap (λ (b : Bool). if b then next_count mid else mid) is.0 ∙ ap next_count same in
+      inr (more ∙ ap (count_behind 20) one, λ honest. stood honest ∙ is.1)
+  | inr other ↦
+      let none = shut ∙ ap (λ (b : Bool). if b then next_count mid else mid) other.0 ∙ same in
+      inl (more ∙ ap (count_behind 20) none, λ honest is_open. other.1 (sym (stood honest) ∙ is_open))
+]

@@ -1,5 +1,5 @@
 pub mod Format
-pub mod Lifted
+pub mod Head
 pub mod Opening
 pub mod PageOrder
 pub mod Store

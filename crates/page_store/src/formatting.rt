@@ -1,12 +1,15 @@
 // How an empty store is written: a crash at any moment leaves what stood there, no store, or the empty one.
 
 ghost use Rattle.std.specs.Prelude.{◌≡◌, ◌⊎◌, ◌+◌, ◌*◌, ◌<◌, ◌≤◌, ℕ, length, sum, IfOk, IfErr, OnOk, MatchResult};
-ghost use Rattle.disk_model.specs.Image.{Holds, SameOutside};
-ghost use Rattle.disk_model.specs.View.{After, EachImage, IsSynced, LeavesOnly, Stays, Steps};
+ghost use Rattle.disk_model.specs.Image.{Holds};
+ghost use Rattle.disk_model.specs.View.{EachImage, IsSynced, LeavesOnly, Stays, Steps};
 ghost use Rattle.qsr_value.specs.Causes.{CountsFault, count_behind, next_count};
-ghost use Rattle.page_store.specs.Format.{CausedBy, IsFormatFault, IsNew, IsNewJob, IsNewTwin, IsNoStore, IsOldNoneOrNew, IsWritten, SameBelow, WritesByGate, head_rest};
+ghost use Rattle.page_store.specs.Format.{CausedBy, IsFormatFault, IsNew, IsNewJob, IsNewTwin, IsOldNoneOrNew, IsWritten, SameBelow, WritesByGate, head_rest};
+ghost use Rattle.page_store.specs.Opening.{IsEmptyStore};
 ghost use Rattle.page_store.specs.PageOrder.{AreSizes, parts};
+ghost use Rattle.page_store.specs.Store.{contents_of};
 
+use crate::gates::{shut, unlock};
 use crate::pages::job_page;
 use crate::records::{CLOSED, OPEN, PAGE, STORE_HEAD_BYTES, head_page, slot_page};
 use crate::{Sizes, StoreFault, layout_pages};
@@ -33,6 +36,7 @@ pub fn format<D: Disk>(disk: &mut D, sizes: Sizes) -> Result<u32, StoreFault>
     // it fails.
     ensures any_moment { LeavesOnly (D.view disk.old) (D.view disk.new) (IsOldNoneOrNew (D.view disk.old) sizes) }
     ensures formatted { IfOk result (λ pages. EachImage (D.view disk.new) (IsNew sizes)) }
+    ensures empty { IfOk result (λ pages. EachImage (D.view disk.new) (λ c. IsEmptyStore (D.size_of disk.old) sizes (contents_of sizes c))) }
     ensures pages { IfOk result (λ pages. pages ≡ sum (parts sizes)) }
 
     // It answers that the disk is too small exactly where it is, and then has made no call.
@@ -73,10 +77,10 @@ fn write_store<D: Disk>(disk: &mut D, sizes: &Sizes) -> Result<(), Failed>
     ensures size { D.size_of disk.new ≡ D.size_of disk.old }
 {
     let gate = read_gate(disk)?;
-    close_gate(disk, gate)?;
+    shut(disk, 0, gate)?;
     write_parts(disk, sizes)?;
     disk.sync()?; // all parts stand before the gate is open
-    open_gate(disk)
+    unlock(disk, 0)
 }
 
 /// Syncs, so that a crash leaves the gate that it then reads.
@@ -95,27 +99,6 @@ fn read_gate<D: Disk>(disk: &mut D) -> Result<u8, Failed>
     let mut gate = [0; 1];
     disk.read(0, &mut gate)?;
     Ok(gate[0])
-}
-
-/// Closes the store's gate. It writes only where the gate is open: so where the write is torn and the gate is open
-/// once more, the store is the one of before.
-fn close_gate<D: Disk>(disk: &mut D, gate: u8) -> Result<(), Failed>
-    requires { 1 ≤ D.size_of disk.old }
-    ensures any_moment { IsSynced (D.view disk.old) → ((D.view disk.old).honest → (D.view disk.old).seen 0 ≡ gate)
-        → LeavesOnly (D.view disk.old) (D.view disk.new) (λ c. (D.view disk.old).now c ⊎ IsNoStore c) }
-    ensures closed { OnOk result (((D.view disk.old).honest → (D.view disk.old).seen 0 ≡ gate) → EachImage (D.view disk.new) IsNoStore) }
-    ensures faults { CountsFault result (D.faults_of disk.old) (D.faults_of disk.new) }
-    ensures reads { D.reads_of disk.new ≡ D.reads_of disk.old }
-    ensures writes { OnOk result (((D.view disk.old).honest → (D.view disk.old).seen 0 ≡ gate)
-        → WritesByGate 0 (D.view disk.old) (D.writes_of disk.old) (D.writes_of disk.new)) }
-    ensures syncs { OnOk result (D.syncs_of disk.new ≡ next_count (D.syncs_of disk.old)) }
-    ensures size { D.size_of disk.new ≡ D.size_of disk.old }
-{
-    if gate != OPEN {
-        return disk.sync();
-    }
-    disk.write(0, &[CLOSED])?;
-    disk.sync()
 }
 
 /// Writes all of an empty store but the gate of its head.
@@ -186,19 +169,4 @@ fn write_jobs<D: Disk>(disk: &mut D, sizes: &Sizes) -> Result<(), Failed>
         write_twin(disk, page, page + 1, &FREE_HEAD)?;
     }
     Ok(())
-}
-
-/// Opens the store's gate.
-fn open_gate<D: Disk>(disk: &mut D) -> Result<(), Failed>
-    requires { 1 ≤ D.size_of disk.old }
-    ensures any_moment { LeavesOnly (D.view disk.old) (D.view disk.new) (After (SameOutside 0 1) (D.view disk.old)) }
-    ensures opened { OnOk result (EachImage (D.view disk.new) (λ c. c 0 ≡ OPEN)) }
-    ensures faults { CountsFault result (D.faults_of disk.old) (D.faults_of disk.new) }
-    ensures reads { D.reads_of disk.new ≡ D.reads_of disk.old }
-    ensures writes { D.writes_of disk.new ≡ next_count (D.writes_of disk.old) }
-    ensures syncs { OnOk result (D.syncs_of disk.new ≡ next_count (D.syncs_of disk.old)) }
-    ensures size { D.size_of disk.new ≡ D.size_of disk.old }
-{
-    disk.write(0, &[OPEN])?;
-    disk.sync() // no crash takes the store away
 }

@@ -1,11 +1,12 @@
 // How a store is found on a disk: its head, and a current slot of each twin.
 
-ghost use Rattle.std.specs.Prelude.{◌≡◌, ◌+◌, ◌*◌, ◌<◌, ◌≤◌, length, sum, IfOk, IfErr, OnOk, MatchOption, MatchResult, Some, ⊤};
+ghost use Rattle.std.specs.Prelude.{◌≡◌, ◌⊎◌, ◌+◌, ◌*◌, ◌<◌, ◌≤◌, length, sum, IfOk, IfErr, OnOk, MatchOption, MatchResult, Some, ⊤};
 ghost use Rattle.disk_model.specs.View.{Stays, IsSynced};
-ghost use Rattle.qsr_value.specs.Causes.{CountsFault};
-ghost use Rattle.page_store.specs.Opening.{AreWhole, HasNoHead, IsDamagedTwin, IsOpeningFault, IsStore, head_in, store_head};
+ghost use Rattle.qsr_value.specs.Causes.{CountsFault, count_behind, next_count};
+ghost use Rattle.page_store.specs.Opening.{AreWhole, HasNoHead, IsDamagedTwin, IsOpeningFault, IsStore, ReadsNoStore, ReadsTwins};
 ghost use Rattle.page_store.specs.Format.{CausedBy};
-ghost use Rattle.page_store.specs.Store.{IsTwin, twin_number};
+ghost use Rattle.page_store.specs.Head.{head_in, store_head};
+ghost use Rattle.page_store.specs.Store.{IsTwin, contents_of, twin_number};
 ghost use Rattle.page_store.specs.PageOrder.{AreSizes, parts};
 
 use crate::pages::place_of;
@@ -24,6 +25,10 @@ pub(crate) fn read_store_head<D: Disk>(disk: &mut D) -> Result<Option<Sizes>, Fa
     ensures fits { IfOk result (λ found. MatchOption found ⊤ (λ sizes. 4096 * sum (parts sizes) ≤ D.size_of disk.old)) }
     ensures stays { Stays (D.view disk.old) (D.view disk.new) }
     ensures faults { CountsFault result (D.faults_of disk.old) (D.faults_of disk.new) }
+    ensures reads { IfOk result (λ found. MatchOption found ((D.reads_of disk.new ≡ D.reads_of disk.old) ⊎ (D.reads_of disk.new ≡ next_count (D.reads_of disk.old)))
+        (λ sizes. D.reads_of disk.new ≡ next_count (D.reads_of disk.old))) }
+    ensures writes { D.writes_of disk.new ≡ D.writes_of disk.old }
+    ensures syncs { D.syncs_of disk.new ≡ D.syncs_of disk.old }
     ensures size { D.size_of disk.new ≡ D.size_of disk.old }
 {
     if disk.size() < STORE_HEAD_BYTES as u64 {
@@ -60,10 +65,13 @@ fn twin_of(number: u8) -> Twin
 fn first_damaged<D: Disk>(disk: &mut D, sizes: &Sizes) -> Result<Option<u32>, Failed>
     requires sizes { AreSizes sizes.now }
     requires fits { 4096 * sum (parts sizes.now) ≤ D.size_of disk.old }
-    ensures found { IfOk result (λ found. (D.view disk.old).honest → MatchOption found (AreWhole sizes.now 9 (D.view disk.old).seen)
-        (λ page. IsDamagedTwin sizes.now page (D.view disk.old).seen)) }
+    ensures found { IfOk result (λ found. (D.view disk.old).honest → MatchOption found (AreWhole 9 (contents_of sizes.now (D.view disk.old).seen))
+        (λ page. IsDamagedTwin sizes.now page (contents_of sizes.now (D.view disk.old).seen))) }
     ensures stays { Stays (D.view disk.old) (D.view disk.new) }
     ensures faults { CountsFault result (D.faults_of disk.old) (D.faults_of disk.new) }
+    ensures reads { IfOk result (λ found. MatchOption found (D.reads_of disk.new ≡ count_behind 18 (D.reads_of disk.old)) (λ page. ReadsTwins page (D.reads_of disk.old) (D.reads_of disk.new))) }
+    ensures writes { D.writes_of disk.new ≡ D.writes_of disk.old }
+    ensures syncs { D.syncs_of disk.new ≡ D.syncs_of disk.old }
     ensures size { D.size_of disk.new ≡ D.size_of disk.old }
 {
     for number in 0..TWINS {
@@ -77,13 +85,17 @@ fn first_damaged<D: Disk>(disk: &mut D, sizes: &Sizes) -> Result<Option<u32>, Fa
 
 /// Finds a store on a disk that was synced, and answers its sizes.
 fn find_store<D: Disk>(disk: &mut D) -> Result<Sizes, StoreFault>
-    ensures store { IfOk result (λ sizes. (D.view disk.old).honest → IsStore (D.size_of disk.old) sizes (D.view disk.old).seen) }
+    ensures store { IfOk result (λ sizes. (D.view disk.old).honest → IsStore (D.size_of disk.old) sizes (contents_of sizes (D.view disk.old).seen)) }
     ensures sizes { IfOk result (λ sizes. AreSizes sizes) }
     ensures fits { IfOk result (λ sizes. 4096 * sum (parts sizes) ≤ D.size_of disk.old) }
     ensures refused { IfErr result (IsOpeningFault (D.size_of disk.old) (D.view disk.old)) }
     ensures stays { Stays (D.view disk.old) (D.view disk.new) }
     ensures faults { MatchResult result (λ sizes. D.faults_of disk.new ≡ D.faults_of disk.old)
         (λ fault. CausedBy fault (D.faults_of disk.old) (D.faults_of disk.new)) }
+    ensures reads { OnOk result (D.reads_of disk.new ≡ count_behind 19 (D.reads_of disk.old)) }
+    ensures none_reads { IfErr result (λ fault. ReadsNoStore fault (D.reads_of disk.old) (D.reads_of disk.new)) }
+    ensures writes { D.writes_of disk.new ≡ D.writes_of disk.old }
+    ensures syncs { D.syncs_of disk.new ≡ D.syncs_of disk.old }
     ensures size { D.size_of disk.new ≡ D.size_of disk.old }
 {
     let sizes = match read_store_head(disk) {
@@ -100,7 +112,7 @@ fn find_store<D: Disk>(disk: &mut D) -> Result<Sizes, StoreFault>
 
 /// Syncs a disk, and finds the store on it.
 pub(crate) fn start<D: Disk>(disk: &mut D) -> Result<Sizes, StoreFault>
-    ensures store { IfOk result (λ sizes. (D.view disk.old).honest → IsStore (D.size_of disk.old) sizes (D.view disk.old).seen) }
+    ensures store { IfOk result (λ sizes. (D.view disk.old).honest → IsStore (D.size_of disk.old) sizes (contents_of sizes (D.view disk.old).seen)) }
     ensures sizes { IfOk result (λ sizes. AreSizes sizes) }
     ensures fits { IfOk result (λ sizes. 4096 * sum (parts sizes) ≤ D.size_of disk.old) }
     ensures refused { IfErr result (IsOpeningFault (D.size_of disk.old) (D.view disk.old)) }
@@ -108,6 +120,10 @@ pub(crate) fn start<D: Disk>(disk: &mut D) -> Result<Sizes, StoreFault>
     ensures stays { Stays (D.view disk.old) (D.view disk.new) }
     ensures faults { MatchResult result (λ sizes. D.faults_of disk.new ≡ D.faults_of disk.old)
         (λ fault. CausedBy fault (D.faults_of disk.old) (D.faults_of disk.new)) }
+    ensures reads { OnOk result (D.reads_of disk.new ≡ count_behind 19 (D.reads_of disk.old)) }
+    ensures none_reads { IfErr result (λ fault. ReadsNoStore fault (D.reads_of disk.old) (D.reads_of disk.new)) }
+    ensures writes { D.writes_of disk.new ≡ D.writes_of disk.old }
+    ensures syncs { D.syncs_of disk.new ≡ next_count (D.syncs_of disk.old) }
     ensures size { D.size_of disk.new ≡ D.size_of disk.old }
 {
     match disk.sync() {

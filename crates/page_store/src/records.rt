@@ -6,7 +6,7 @@ ghost use Rattle.qsr_layout.specs.Page.{Holds, SameOutside};
 ghost use Rattle.qsr_layout.specs.StoreHead.{store_head_field};
 ghost use Rattle.qsr_layout.specs.SlotHead.{slot_head_field};
 ghost use Rattle.page_store.specs.Format.{behind_gate, head_rest, slot_front};
-ghost use Rattle.page_store.specs.Opening.{are_sizes, head_in, is_marked, is_size, sizes_in};
+ghost use Rattle.page_store.specs.Head.{are_sizes, head_in, is_marked, is_size, sizes_in};
 ghost use Rattle.page_store.specs.PageOrder.{AreSizes};
 ghost use Rattle.page_store.specs.Twin.{number_in};
 
@@ -165,7 +165,7 @@ fn is_head(page: &[u8; PAGE_BYTES], sizes: &Sizes) -> bool
 }
 
 /// The sizes of the store whose head these bytes are, if they are one.
-#[tactic(auto, unfolding(crate::specs::Opening::head_in))]
+#[tactic(auto, unfolding(crate::specs::Head::head_in))]
 pub(crate) fn head_in(page: &[u8; PAGE_BYTES]) -> Option<Sizes>
     ensures value { result ≡ head_in page.now }
     ensures sizes { MatchOption result ⊤ (λ sizes. AreSizes sizes) }

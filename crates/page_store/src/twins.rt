@@ -1,10 +1,11 @@
 // Twins: how the body of one is replaced, so that a crash at any moment leaves the old or the new one.
 
-ghost use Rattle.std.specs.Prelude.{◌≡◌, ◌≢◌, ◌⊎◌, ◌+◌, ◌*◌, ◌^◌, ◌<◌, ◌≤◌, length, nat_le, take, option_map, is_some, if◌then◌else◌, OnOk, IfOk};
+ghost use Rattle.std.specs.Prelude.{◌==◌, if◌then◌else◌, ◌≡◌, ◌≢◌, ◌⊎◌, ◌+◌, ◌*◌, ◌^◌, ◌<◌, ◌≤◌, length, take, drop, option_map, is_some, MatchOption, ⊤, OnOk, IfOk};
 ghost use Rattle.disk_model.specs.Image.{Holds, SameOutside};
 ghost use Rattle.disk_model.specs.View.{EachImage, IsSynced, LeavesOnly, Stays, Steps};
-ghost use Rattle.qsr_value.specs.Causes.{CountsFault, count_behind, next_count};
+ghost use Rattle.qsr_value.specs.Causes.{CountsAtMost, CountsFault, count_behind, next_count};
 ghost use Rattle.page_store.specs.Format.{behind_gate};
+ghost use Rattle.page_store.specs.Store.{HasCommitWrites, body_reads, slot_pages};
 ghost use Rattle.page_store.specs.Twin.{IsClosedOrHolds, IsCommitted, IsOldOrNew, IsTwinReady, KeepsOutside, twin_body};
 
 use crate::gates::{shut, unlock};
@@ -41,7 +42,8 @@ fn write_behind<D: Disk>(disk: &mut D, stale: &Stale, body: &[u8]) -> Result<(),
     ensures steps { Steps (SameOutside (stale.now.slot + 1) (7 + length body.now)) (D.view disk.old) (D.view disk.new) }
     ensures faults { CountsFault result (D.faults_of disk.old) (D.faults_of disk.new) }
     ensures reads { D.reads_of disk.new ≡ D.reads_of disk.old }
-    ensures writes { OnOk result (D.writes_of disk.new ≡ if nat_le (length body.now) 4088 then next_count (D.writes_of disk.old) else count_behind 2 (D.writes_of disk.old)) }
+    ensures writes { OnOk result (D.writes_of disk.new ≡ count_behind (slot_pages (length body.now)) (D.writes_of disk.old)) }
+    ensures writes_most { CountsAtMost (slot_pages (length body.now)) (D.writes_of disk.old) (D.writes_of disk.new) }
     ensures syncs { D.syncs_of disk.new ≡ D.syncs_of disk.old }
     ensures size { D.size_of disk.new ≡ D.size_of disk.old }
 {
@@ -68,6 +70,9 @@ fn replace<D: Disk>(disk: &mut D, stale: &Stale, body: &[u8]) -> Result<(), Fail
     ensures synced { OnOk result (IsSynced (D.view disk.new)) }
     ensures faults { CountsFault result (D.faults_of disk.old) (D.faults_of disk.new) }
     ensures reads { D.reads_of disk.new ≡ D.reads_of disk.old }
+    ensures writes { OnOk result (D.writes_of disk.new ≡ count_behind (slot_pages (length body.now) + (if stale.now.gate == OPEN then 2 else 1)) (D.writes_of disk.old)) }
+    ensures writes_most { CountsAtMost (slot_pages (length body.now) + 2) (D.writes_of disk.old) (D.writes_of disk.new) }
+    ensures syncs { OnOk result (D.syncs_of disk.new ≡ count_behind 3 (D.syncs_of disk.old)) }
     ensures size { D.size_of disk.new ≡ D.size_of disk.old }
 {
     shut(disk, stale.slot, stale.gate)?;
@@ -95,6 +100,10 @@ pub(crate) fn commit_at<D: Disk>(
     ensures synced { OnOk result (IsSynced (D.view disk.new)) }
     ensures keeps { KeepsOutside at (2 * span) (D.view disk.old) (D.view disk.new) }
     ensures faults { CountsFault result (D.faults_of disk.old) (D.faults_of disk.new) }
+    ensures reads { OnOk result (D.reads_of disk.new ≡ count_behind 2 (D.reads_of disk.old)) }
+    ensures writes { OnOk result (HasCommitWrites (length body.now) (D.writes_of disk.old) (D.writes_of disk.new)) }
+    ensures writes_most { CountsAtMost (slot_pages (length body.now) + 2) (D.writes_of disk.old) (D.writes_of disk.new) }
+    ensures syncs { OnOk result (D.syncs_of disk.new ≡ count_behind 3 (D.syncs_of disk.old)) }
     ensures size { D.size_of disk.new ≡ D.size_of disk.old }
 {
     let heads = read_heads(disk, at, span)?;
@@ -108,8 +117,12 @@ fn read_body<D: Disk>(disk: &mut D, found: &Found, buf: &mut [u8; 8192]) -> Resu
     requires within { found.now.at + found.now.len ≤ D.size_of disk.old }
     requires fits { found.now.at + found.now.len < 2 ^ 64 }
     ensures bytes { OnOk result ((D.view disk.old).honest → Holds (D.view disk.old).seen found.now.at (take found.now.len buf.new)) }
+    ensures rest { OnOk result (drop found.now.len buf.new ≡ drop found.now.len buf.old) }
     ensures stays { Stays (D.view disk.old) (D.view disk.new) }
     ensures faults { CountsFault result (D.faults_of disk.old) (D.faults_of disk.new) }
+    ensures reads { OnOk result (D.reads_of disk.new ≡ count_behind (body_reads found.now.len) (D.reads_of disk.old)) }
+    ensures writes { D.writes_of disk.new ≡ D.writes_of disk.old }
+    ensures syncs { D.syncs_of disk.new ≡ D.syncs_of disk.old }
     ensures size { D.size_of disk.new ≡ D.size_of disk.old }
 {
     let len = found.len as usize;
@@ -137,8 +150,14 @@ pub(crate) fn current_at<D: Disk>(
     requires within { at + 2 * span ≤ D.size_of disk.old }
     requires fits { at + 2 * span < 2 ^ 64 }
     ensures body { IfOk result (λ n. (D.view disk.old).honest → option_map (λ k. take k buf.new) n ≡ twin_body span at (D.view disk.old).seen) }
+    ensures within { IfOk result (λ n. MatchOption n ⊤ (λ k. k + 8 ≤ span)) }
+    ensures rest { IfOk result (λ n. MatchOption n (buf.new ≡ buf.old) (λ k. drop k buf.new ≡ drop k buf.old)) }
     ensures stays { Stays (D.view disk.old) (D.view disk.new) }
     ensures faults { CountsFault result (D.faults_of disk.old) (D.faults_of disk.new) }
+    ensures reads { IfOk result (λ n. MatchOption n (D.reads_of disk.new ≡ count_behind 2 (D.reads_of disk.old))
+        (λ k. D.reads_of disk.new ≡ count_behind (2 + body_reads k) (D.reads_of disk.old))) }
+    ensures writes { D.writes_of disk.new ≡ D.writes_of disk.old }
+    ensures syncs { D.syncs_of disk.new ≡ D.syncs_of disk.old }
     ensures size { D.size_of disk.new ≡ D.size_of disk.old }
 {
     let heads = read_heads(disk, at, span)?;
@@ -158,6 +177,9 @@ pub(crate) fn has_current<D: Disk>(disk: &mut D, at: u64, span: u64) -> Result<b
     ensures current { IfOk result (λ is. (D.view disk.old).honest → is ≡ is_some (twin_body span at (D.view disk.old).seen)) }
     ensures stays { Stays (D.view disk.old) (D.view disk.new) }
     ensures faults { CountsFault result (D.faults_of disk.old) (D.faults_of disk.new) }
+    ensures reads { OnOk result (D.reads_of disk.new ≡ count_behind 2 (D.reads_of disk.old)) }
+    ensures writes { D.writes_of disk.new ≡ D.writes_of disk.old }
+    ensures syncs { D.syncs_of disk.new ≡ D.syncs_of disk.old }
     ensures size { D.size_of disk.new ≡ D.size_of disk.old }
 {
     let heads = read_heads(disk, at, span)?;

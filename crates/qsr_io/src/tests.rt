@@ -1,5 +1,7 @@
 use crate::{MemSink, MemSource, Sink, Source, StdSink, StdSource, put_all};
 use qsr_value::Failed;
+use std::io;
+use std::io::{ErrorKind, Read, Write};
 use std::test::Fail;
 
 #[test]
@@ -34,6 +36,59 @@ fn the_streams_of_std_serve(rt: HostRuntime) -> Result<(), Fail> {
     assert_eq!(rt; &out[..3], b"abc".as_slice());
     assert_eq!(rt; source.read(&mut out), Ok(0));
     let mut sink = StdSink::new(Vec::new(rt.alloc()));
+    assert_eq!(rt; put_all(&mut sink, b"abc"), Ok(()));
+    assert_eq!(rt; (source.faults(), sink.faults()), (0, 0));
+    Ok(())
+}
+
+/// A stream whose first calls are interrupted. It then reads a byte 7, and takes all that is written.
+#[derive(Drop)]
+struct Stutter {
+    interrupted: u32,
+}
+
+impl Stutter {
+    /// One call: interrupted, or through.
+    fn call(&mut self) -> io::Result<()> {
+        if self.interrupted == 0 {
+            return Ok(());
+        }
+        self.interrupted -= 1;
+        Err(ErrorKind::Interrupted.into())
+    }
+}
+
+impl Read for Stutter {
+    fn read(&mut self, buf: &mut [u8]) -> io::Result<usize> {
+        self.call()?;
+        match buf.first_mut() {
+            Some(byte) => {
+                *byte = 7;
+                Ok(1)
+            }
+            None => Ok(0),
+        }
+    }
+}
+
+impl Write for Stutter {
+    fn write(&mut self, buf: &[u8]) -> io::Result<usize> {
+        self.call()?;
+        Ok(buf.len())
+    }
+
+    fn flush(&mut self) -> io::Result<()> {
+        Ok(())
+    }
+}
+
+#[test]
+fn a_call_that_was_interrupted_is_made_again(rt: HostRuntime) -> Result<(), Fail> {
+    let mut source = StdSource::new(Stutter { interrupted: 1000 });
+    let mut out = [0; 2];
+    assert_eq!(rt; source.read(&mut out), Ok(1));
+    assert_eq!(rt; out[0], 7);
+    let mut sink = StdSink::new(Stutter { interrupted: 1000 });
     assert_eq!(rt; put_all(&mut sink, b"abc"), Ok(()));
     assert_eq!(rt; (source.faults(), sink.faults()), (0, 0));
     Ok(())

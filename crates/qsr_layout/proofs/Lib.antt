@@ -1,3 +1,4 @@
+pub mod Bytes
 pub mod FieldLemmas
 pub mod Numbers
 pub mod RecordLemmas

@@ -1,11 +1,11 @@
 -- What a crash leaves of a run of a script, from line to line.
-use Rattle.std.proofs.Common.{◌≡◌, ℕ, zero, suc, ◌+◌, List, [], ◌∷◌, ◌++◌, length, Option, None, Some, ap, refl, sym, ◌∙◌, subst, arith, length-append}
+use Rattle.std.proofs.Common.{◌≡◌, ℕ, ◌+◌, List, [], ◌∷◌, ◌++◌, length, Option, None, Some, ap, refl, sym, ◌∙◌, subst, arith, length-append}
 use Rattle.std.proofs.lemmas.List.{take-append-le, take_all}
 use Rattle.std.proofs.KnownBytes.{Appends-nil}
 use Rattle.std.specs.Io.KnownBytes.{prepend_known}
 use Rattle.disk_model.specs.Image.{Image}
 use Rattle.disk_model.specs.View.{View, EachImage, LeavesOnly}
-use Rattle.disk_model.proofs.Runs.{no_call, and_then, weaker_run, each_now}
+use Rattle.disk_model.proofs.Runs.{no_call, and_then, count_behind-more, weaker_run, each_now}
 use Rattle.qsr_top.specs.declared.end.End.{End}
 use Rattle.qsr_top.specs.declared.script_line.ScriptLine.{ScriptLine}
 use Rattle.qsr_top.specs.declared.table.Table.{Table}
@@ -14,7 +14,7 @@ use Rattle.qsr_top.specs.Progress.{IsAtTold, Advances, Breaks, RunSoFar, RunEnde
 use Rattle.qsr_top.specs.Rows.{HasSome, HasTable, WritesRows}
 use Rattle.qsr_top.specs.Run.{HasRead, HasWritten}
 use Rattle.qsr_top.specs.Answers.{IsAnswer, IsPartOf, Tells}
-use Rattle.qsr_value.specs.Causes.{count_behind, next_count}
+use Rattle.qsr_value.specs.Causes.{count_behind}
 use Rattle.qsr_top.specs.declared.script_line.ScriptLine.TheVariants.{Row, Turn, Rows}
 use Rattle.qsr_top.proofs.AnswerLemmas.{AreAnswers-more, IsAnswer-told, IsPartOf-told}
 use Rattle.qsr_top.proofs.ProgressLemmas.{count_listed-more}
@@ -62,15 +62,6 @@ RunSoFar-start size left given disk reads writes = record {
   read = refl;
   written = refl;
 }
-
--- more calls behind some
-count_behind-more : (more calls count : ℕ) → count_behind (more + calls) count ≡ count_behind more (count_behind calls count)
-count_behind-more zero calls count =
-    let none : 0 + calls ≡ calls = omega arith in
-    ap (λ calls. count_behind calls count) none
-count_behind-more (suc more) calls count =
-    let one : suc more + calls ≡ suc (more + calls) = omega arith in
-    ap (λ calls. count_behind calls count) one ∙ ap next_count (count_behind-more more calls count)
 
 -- more rows are acknowledged
 writes_more : (before after first old new : ℕ) → old ≡ count_behind before first → WritesRows before after old new → new ≡ count_behind after first

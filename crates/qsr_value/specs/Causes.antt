@@ -20,3 +20,9 @@ pub record RoseByOne (old new : ℕ) : Type 0 where
 -- where the call succeeds, and rises by one where it fails
 abbrev pub CountsFault : {T E : Type 0} → Result T E → ℕ → ℕ → Type 0
 CountsFault result old new = MatchResult result (λ _. new ≡ old) (λ _. RoseByOne old new)
+
+-- So many calls were counted at most. Said by their number, since nothing else says that an object's count is within u64.
+pub record CountsAtMost (most old new : ℕ) : Type 0 where
+  pub calls : ℕ
+  pub few : calls ≤ most
+  pub exact : new ≡ count_behind calls old

@@ -1,1 +1,5 @@
 pub mod Causes
+pub mod Columns
+pub mod Encoding
+pub mod Ordered
+pub mod Values

@@ -1,12 +1,35 @@
-//! What every layer of qsr speaks of: texts, lists, and the two failures that a layer hands on.
+//! What every layer of qsr speaks of: texts, lists, rows, their schemas and where they go to, and the two failures that a
+//! layer hands on.
 #![tactic(auto)]
 
+#[cfg(test)]
+mod codec_tests;
+mod compare;
+mod copies;
+mod decode;
+mod encode;
 mod failure;
+mod kind;
+mod laws;
 mod list;
+mod row;
+mod row_sink;
+#[cfg(test)]
+mod row_tests;
+mod schema;
 #[cfg(test)]
 mod tests;
 mod text;
 
+pub use compare::{SortKey, cmp_by};
+pub use copies::TryCopy;
+pub use decode::{RowFault, decode_row};
+pub use encode::{NoRoom, encode_row};
 pub use failure::{Failed, Memory};
+pub use kind::ColKind;
+pub use laws::encodings_are_exact;
 pub use list::{Bytes, ListOf};
+pub use row::{Row, Value};
+pub use row_sink::{Outside, RowSink};
+pub use schema::{Column, Schema};
 pub use text::Txt;

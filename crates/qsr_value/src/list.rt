@@ -1,6 +1,6 @@
 ghost use Rattle.std.specs.Prelude.{◌≡◌, ◌<◌, [], ◌∷◌, ◌++◌, length, slice_get, IfOk, OnOk, OnErr, Some};
 
-use crate::Memory;
+use crate::{Memory, TryCopy};
 use sqlite_items::Items;
 use std::alloc::Global;
 use std::marker::Model;
@@ -34,6 +34,16 @@ impl<T> ListOf<T> {
         ListOf {
             items: Items::new(alloc),
         }
+    }
+
+    /// The empty list with memory for so many items.
+    pub fn with_room(alloc: Global, items: usize) -> Result<ListOf<T>, Memory>
+        ensures { IfOk result (λ list. list ≡ []) }
+    {
+        let items = Vec::with_capacity(alloc, items)?;
+        Ok(ListOf {
+            items: Items::from_vec(items),
+        })
     }
 
     pub fn len(&self) -> usize
@@ -73,5 +83,36 @@ impl<T: Copy> ListOf<T> {
     {
         let items = Items::from_slice(alloc, items)?;
         Ok(ListOf { items })
+    }
+}
+
+impl<T: TryCopy + Drop> ListOf<T> {
+    /// This list followed by the other.
+    pub fn join(&self, alloc: Global, other: &ListOf<T>) -> Result<ListOf<T>, Memory>
+        ensures { IfOk result (λ list. list ≡ self.now ++ other.now) }
+    {
+        // Where the sum is more than usize holds there is no memory for it either.
+        let mut joined = ListOf::with_room(alloc, self.len().saturating_add(other.len()))?;
+        joined.push_copies(alloc, self.as_slice())?;
+        joined.push_copies(alloc, other.as_slice())?;
+        Ok(joined)
+    }
+
+    /// Adds a copy of each of these items at the end.
+    fn push_copies(&mut self, alloc: Global, items: &[T]) -> Result<(), Memory>
+        ensures { OnOk result (self.new ≡ self.old ++ items.now) }
+    {
+        for item in items {
+            self.push(item.copy(alloc)?)?;
+        }
+        Ok(())
+    }
+}
+
+impl<T: TryCopy + Drop> TryCopy for ListOf<T> {
+    fn copy(&self, alloc: Global) -> Result<ListOf<T>, Memory> {
+        let mut list = ListOf::with_room(alloc, self.len())?;
+        list.push_copies(alloc, self.as_slice())?;
+        Ok(list)
     }
 }

@@ -1,4 +1,4 @@
-use crate::{Bytes, ListOf, Txt};
+use crate::{Bytes, Failed, ListOf, Memory, Txt};
 use std::test::Fail;
 
 #[test]
@@ -20,5 +20,12 @@ fn a_list_grows_at_its_end(rt: HostRuntime) -> Result<(), Fail> {
 #[test]
 fn a_text_is_kept(rt: HostRuntime) -> Result<(), Fail> {
     assert_eq!(rt; Txt::from_str(rt.alloc(), "größe")?.as_str(), "größe");
+    Ok(())
+}
+
+#[test]
+fn the_failures_have_texts(rt: HostRuntime) -> Result<(), Fail> {
+    let text = format!(in rt.alloc(); "{Memory}, {Failed}")?;
+    assert_eq!(rt; text.as_str(), "no memory, fault of a device or stream");
     Ok(())
 }

@@ -1,6 +1,6 @@
 ghost use Rattle.std.specs.Prelude.{◌≡◌, IfOk};
 
-use crate::Memory;
+use crate::{Memory, TryCopy};
 use std::alloc::Global;
 use std::marker::Model;
 
@@ -31,5 +31,11 @@ impl Txt {
         ensures { result.now ≡ self.now }
     {
         self.text.as_str()
+    }
+}
+
+impl TryCopy for Txt {
+    fn copy(&self, alloc: Global) -> Result<Txt, Memory> {
+        Txt::from_str(alloc, self.as_str())
     }
 }

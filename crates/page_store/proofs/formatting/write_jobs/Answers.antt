@@ -1,10 +1,10 @@
 use Rattle.std.proofs.Common.{◌≡◌, ℕ, suc, ◌+◌, ◌*◌, ◌<◌, ◌∙◌, ap, subst, sym, arith}
 use Rattle.disk_model.specs.Image.{Image}
+use Rattle.disk_model.proofs.Runs.{steps_twice, weaker_steps}
 use Rattle.qsr_value.specs.Causes.{count_behind}
 use Rattle.page_store.specs.Format.{SameBelow}
 use Rattle.page_store.proofs.Images.{SameBelow-fewer, SameBelow-twice, job_made, one_more_job}
 use Rattle.page_store.proofs.PageLaws.{job_behind, job_within}
-use Rattle.page_store.proofs.Runs.{steps_twice, weaker_steps}
 use Rattle.page_store.proofs.formatting.write_jobs.Goals as goal
 
 pub write_twin-requires-clause-within : goal.write_twin-requires-clause-within

@@ -1,9 +1,9 @@
 use Rattle.std.proofs.Common.{◌*◌, arith}
 use Rattle.std.proofs.lemmas.Result.{on_ok_weaker}
 use Rattle.disk_model.specs.Image.{Image}
+use Rattle.disk_model.proofs.Runs.{steps_twice, weaker_steps}
 use Rattle.page_store.proofs.Images.{SameBelow-fewer, SameBelow-twice, parts_written}
 use Rattle.page_store.proofs.PageLaws.{sum-parts}
-use Rattle.page_store.proofs.Runs.{steps_twice, weaker_steps}
 use Rattle.page_store.proofs.formatting.write_parts.Goals as goal
 
 pub write_head-requires-clause-fits : goal.write_head-requires-clause-fits

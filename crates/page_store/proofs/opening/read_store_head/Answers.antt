@@ -1,5 +1,5 @@
 use Rattle.std.proofs.Common.{◌≡◌, length, replicate, sym, ◌∙◌, arith, rules}
-use Rattle.page_store.specs.Opening.{store_head}
+use Rattle.page_store.specs.Head.{store_head}
 use Rattle.page_store.proofs.Heads.{head_of_image, no_head, small_disk}
 use Rattle.page_store.proofs.PageBytes.{get_within}
 use Rattle.page_store.proofs.opening.read_store_head.Goals as goal

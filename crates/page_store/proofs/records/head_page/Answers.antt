@@ -1,7 +1,7 @@
 use Rattle.std.proofs.Common.{◌++◌, refl, arith, codes}
 use Rattle.page_store.specs.Format.{head_rest, little}
 use Rattle.qsr_layout.specs.Page.{Holds}
-use Rattle.page_store.proofs.PageBytes.{holds_more, is_part}
+use Rattle.qsr_layout.proofs.Bytes.{holds_more, is_part}
 use Rattle.page_store.proofs.records.head_page.Goals as goal
 
 pub returns : goal.returns

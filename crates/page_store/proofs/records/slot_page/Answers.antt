@@ -1,7 +1,7 @@
 use Rattle.std.proofs.Common.{◌≡◌, ◌+◌, ◌-◌, ◌∷◌, [], ◌++◌, length, refl, arith, ap, subst}
 use Rattle.page_store.specs.Format.{behind_gate, slot_front, little}
 use Rattle.qsr_layout.specs.Page.{Holds}
-use Rattle.page_store.proofs.PageBytes.{holds_more, is_part}
+use Rattle.qsr_layout.proofs.Bytes.{holds_more, is_part}
 use Rattle.page_store.proofs.records.slot_page.Goals as goal
 
 pub returns-clause-slot : goal.returns-clause-slot

@@ -1,4 +1,9 @@
-use Rattle.std.proofs.Common.{◌+◌, ◌*◌, length, arith}
+use Rattle.std.proofs.Common.{ℕ, ◌+◌, ◌*◌, length, arith, subst}
+use Rattle.page_store.specs.Store.{HasCommitWrites}
+use Rattle.std.proofs.Common.{◌==◌}
+use Rattle.std.proofs.lemmas.Result.{on_ok_weaker}
+use Rattle.page_store.specs.declared.records.TheConstants.{OPEN}
+use Rattle.page_store.proofs.Counts.{commit_writes}
 use Rattle.page_store.proofs.Runs.{on_ok_both}
 use Rattle.page_store.proofs.Commits.{commit_done, commit_run}
 use Rattle.page_store.proofs.TwinRuns.{keeps_stays, keeps_twice, keeps_wider}
@@ -24,3 +29,11 @@ returns-clause-keeps g c =
     let n = length c.args.body.now in
     keeps_twice c.args.at (2 * c.args.span) (keeps_stays c.args.at (2 * c.args.span) c.read_heads.ensures.stays)
     (keeps_wider c.stale-stale.result.slot (8 + n) c.args.at (2 * c.args.span) low (omega arith) c.replace.ensures.keeps)
+
+pub returns-clause-writes : goal.returns-clause-writes
+returns-clause-writes g c =
+    let same = c.read_heads.ensures.writes in
+    on_ok_weaker c.replace.result
+    (λ replaced. subst (λ (n : ℕ). HasCommitWrites (length c.args.body.now) n (g.D.Disk.writes_of c.replace.new.disk)) same
+    (commit_writes (c.stale-stale.result.gate == OPEN) (length c.args.body.now) (g.D.Disk.writes_of c.read_heads.new.disk) (g.D.Disk.writes_of c.replace.new.disk) replaced))
+    c.replace.ensures.writes

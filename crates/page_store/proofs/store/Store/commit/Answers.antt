@@ -1,6 +1,6 @@
 use Rattle.std.proofs.lemmas.Result.{on_ok_weaker}
 use Rattle.page_store.specs.Store.{contents_of, contents_view, twin_number}
-use Rattle.page_store.proofs.LiftedRuns.{lifted_synced}
+use Rattle.disk_model.proofs.LiftedRuns.{lifted_synced}
 use Rattle.page_store.proofs.Runs.{on_ok_both}
 use Rattle.page_store.proofs.StoreCommits.{commit_any, commit_last, commit_ready, commit_seen, commit_within, number_small}
 use Rattle.page_store.proofs.store.Store.commit.Goals as goal

@@ -1,6 +1,6 @@
-use Rattle.std.proofs.Common.{None}
+use Rattle.std.proofs.Common.{None, arith}
 use Rattle.page_store.specs.Store.{contents_of, contents_view, twin_at, twin_number, twin_span}
-use Rattle.page_store.proofs.LiftedRuns.{lifted_stays}
+use Rattle.disk_model.proofs.LiftedRuns.{lifted_stays}
 use Rattle.page_store.proofs.StoreCommits.{current_body, number_small}
 use Rattle.page_store.proofs.StoreContents.{ready_stays}
 use Rattle.page_store.proofs.store.Store.current.Goals as goal
@@ -13,9 +13,12 @@ returns-in-Ok-Some-clause-body g c = λ honest.
 
 pub returns-in-Ok-None-clause-none : goal.returns-in-Ok-None-clause-none
 unfolding contents_view
-returns-in-Ok-None-clause-none g c = λ honest.
-    current_body c.args.self.now.sizes (twin_number c.args.twin) c.place_of-place.result.span c.place_of-place.result.at (g.D.Disk.view c.args.self.now.disk.now).seen None
-    (number_small c.args.twin c.requires.twin) c.place_of-place.ensures.span c.place_of-place.ensures.at (let body = rw c.in-Ok-None.field-0-is at c.in-Ok-None.ensures.body in body honest)
+returns-in-Ok-None-clause-none g c = (
+  omega (arith, c.place_of-place.ensures.at),
+  λ honest.
+      current_body c.args.self.now.sizes (twin_number c.args.twin) c.place_of-place.result.span c.place_of-place.result.at (g.D.Disk.view c.args.self.now.disk.now).seen None
+      (number_small c.args.twin c.requires.twin) c.place_of-place.ensures.span c.place_of-place.ensures.at (let body = rw c.in-Ok-None.field-0-is at c.in-Ok-None.ensures.body in body honest),
+)
 
 pub returns-in-Ok-Some-clause-stays : goal.returns-in-Ok-Some-clause-stays
 unfolding contents_view

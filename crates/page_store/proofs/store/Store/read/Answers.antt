@@ -3,7 +3,7 @@ use Rattle.std.proofs.lemmas.Result.{on_ok_weaker}
 use Rattle.page_store.specs.PageOrder.{part_of}
 use Rattle.page_store.specs.Store.{contents_of, contents_view, twin_at, twin_span}
 use Rattle.page_store.proofs.AreaLaws.{area_within, get-area}
-use Rattle.page_store.proofs.LiftedRuns.{lifted_stays}
+use Rattle.disk_model.proofs.LiftedRuns.{lifted_stays}
 use Rattle.page_store.proofs.StoreCommits.{is_area}
 use Rattle.page_store.proofs.StoreContents.{area_holds, ready_stays}
 use Rattle.page_store.proofs.store.Store.read.Goals as goal

@@ -1,6 +1,6 @@
 use Rattle.std.proofs.lemmas.Result.{on_ok_weaker}
 use Rattle.page_store.specs.Store.{contents_of, contents_view, twin_at, twin_span}
-use Rattle.page_store.proofs.LiftedRuns.{lifted_stays, lifted_synced}
+use Rattle.disk_model.proofs.LiftedRuns.{lifted_stays, lifted_synced}
 use Rattle.page_store.proofs.StoreContents.{ready_stays}
 use Rattle.page_store.proofs.store.Store.sync.Goals as goal
 

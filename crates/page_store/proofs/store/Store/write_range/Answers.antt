@@ -4,7 +4,7 @@ use Rattle.disk_model.specs.Image.{Image, SameOutside}
 use Rattle.page_store.specs.PageOrder.{part_of, parts, start_of}
 use Rattle.page_store.specs.Store.{AreaWritten, contents_of, contents_view, twin_at, twin_span}
 use Rattle.page_store.proofs.AreaLaws.{area_within, get-area}
-use Rattle.page_store.proofs.LiftedRuns.{lifted_steps}
+use Rattle.disk_model.proofs.LiftedRuns.{lifted_steps}
 use Rattle.page_store.proofs.StoreCommits.{is_area}
 use Rattle.page_store.proofs.StoreContents.{area_holds, area_written, ready_apart, span_some, write_apart}
 use Rattle.page_store.proofs.TwinRuns.{keeps_step}

@@ -1,7 +1,7 @@
 -- What is known of images, told of what they stand for.
 use Rattle.std.proofs.Common.{inl, inr, ⊎_elim, subst, ap, ◌∙◌, sym}
 use Rattle.disk_model.specs.View.{View, LeavesOnly, EachImage, Stays, Steps, IsSynced}
-use Rattle.page_store.specs.Lifted.{lifted}
+use Rattle.disk_model.specs.Lifted.{lifted}
 
 pub lifted_leaves : {I M : Type 0} {a b : View I} {P : I → Type 0} (f : I → M) (Q : M → Type 0) → LeavesOnly a b P → ((c : I) → P c → Q (f c))
     → LeavesOnly (lifted f a) (lifted f b) Q

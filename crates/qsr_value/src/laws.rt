@@ -1,0 +1,13 @@
+ghost use Rattle.std.specs.Prelude.{◌≡◌, ◌≤◌, List, length};
+ghost use Rattle.qsr_value.specs.declared.row.Value.{Value as RowValue};
+ghost use Rattle.qsr_value.specs.declared.schema.Column.{Column as RowColumn};
+ghost use Rattle.qsr_value.specs.Columns.{width_of};
+ghost use Rattle.qsr_value.specs.Encoding.{encoded_row};
+ghost use Rattle.qsr_value.specs.Values.{Fits};
+
+/// Two laws of the bytes of rows: a row has no more of them than its columns are wide, and rows of one schema with the
+/// same bytes are one row. A call does nothing, and a proof behind it knows the laws.
+pub const fn encodings_are_exact()
+    ensures width { (schema : List RowColumn) (row : List RowValue) → Fits schema row → length (encoded_row schema row) ≤ width_of schema }
+    ensures one { (schema : List RowColumn) (row other : List RowValue) → Fits schema row → Fits schema other → encoded_row schema row ≡ encoded_row schema other → row ≡ other }
+{}
