@@ -1,0 +1,2 @@
+pub mod JobHead
+pub mod Heads
