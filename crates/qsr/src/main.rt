@@ -4,13 +4,23 @@
 #[cfg(test)]
 mod example_tests;
 #[cfg(test)]
+mod fault_tests;
+#[cfg(test)]
 mod format_tests;
+#[cfg(test)]
+mod load_tests;
 #[cfg(test)]
 mod long_tests;
 #[cfg(test)]
 mod rows_tests;
 #[cfg(test)]
 mod runs;
+#[cfg(test)]
+mod table_runs;
+#[cfg(test)]
+mod table_stop_tests;
+#[cfg(test)]
+mod table_tests;
 #[cfg(test)]
 mod tests;
 #[cfg(test)]

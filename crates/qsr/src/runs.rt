@@ -53,6 +53,15 @@ pub(crate) fn words(alloc: Global, words: &[&str]) -> Result<Vec<String>, Memory
     Ok(all)
 }
 
+/// FILE, and the words of a text, which are separated by one space each.
+pub(crate) fn words_in(alloc: Global, text: &str) -> Result<Vec<String>, Memory> {
+    let mut all = words(alloc, &["store"])?;
+    for word in text.split(' ') {
+        push_word(alloc, &mut all, word)?;
+    }
+    Ok(all)
+}
+
 /// The status of `store script`.
 pub(crate) fn script<D: Disk, S: Source, K: Sink>(
     alloc: Global,

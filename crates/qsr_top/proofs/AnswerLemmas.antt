@@ -9,7 +9,7 @@ use Rattle.std.specs.Io.{StartsWith}
 use Rattle.std.specs.Io.KnownBytes.{Appends}
 use Rattle.qsr_io.specs.Given.{GivesFront}
 use Rattle.qsr_top.specs.declared.end.End.{End}
-use Rattle.qsr_top.specs.declared.end.End.TheVariants.{Finished, BadLine, Usage, Refused, DiskFault, SourceFault, SinkFault, NoMemory}
+use Rattle.qsr_top.specs.declared.end.End.TheVariants.{Finished, BadLine, Usage, Refused, NotStore, DiskFault, SourceFault, SinkFault, NoMemory}
 use Rattle.qsr_top.specs.declared.reply.Reply.TheVariants.{Listed}
 use Rattle.qsr_top.specs.declared.script_line.ScriptLine.{ScriptLine}
 use Rattle.qsr_top.specs.declared.script_line.ScriptLine.TheVariants.{Rows, Turn}
@@ -116,6 +116,7 @@ SentUpTo-then BadLine new held' more sent next = absurd next
 SentUpTo-then SourceFault new held' more sent next = absurd next
 SentUpTo-then Usage new held' more sent next = absurd next
 SentUpTo-then Refused new held' more sent next = absurd next
+SentUpTo-then NotStore new held' more sent next = absurd next
 
 -- a line that lists no rows is answered
 pub Answers-reply : (tells : Type 0) (size : ℕ) (table : Table) (line : ScriptLine) (given : Option (List ℕ)) (held held' : List ℕ)
@@ -222,6 +223,7 @@ ends_in_list BadLine given now held text sent = absurd sent
 ends_in_list SourceFault given now held text sent = absurd sent
 ends_in_list Usage given now held text sent = absurd sent
 ends_in_list Refused given now held text sent = absurd sent
+ends_in_list NotStore given now held text sent = absurd sent
 
 -- the list is cut off within a row's line, or behind it
 pub CutsOff-row : {tells : Type 0} (size : ℕ) (table : Table) (end : End) {place : ℕ} {given mid now : Option (List ℕ)} {held held_mid held' : List ℕ} → table.acknowledged ≤ length table.rows
@@ -253,3 +255,4 @@ CutsOff-turn tells size table count SourceFault given held held' faults faults' 
 CutsOff-turn tells size table count SinkFault given held held' faults faults' cause same = absurd cause
 CutsOff-turn tells size table count Usage given held held' faults faults' cause same = absurd cause
 CutsOff-turn tells size table count Refused given held held' faults faults' cause same = absurd cause
+CutsOff-turn tells size table count NotStore given held held' faults faults' cause same = absurd cause

@@ -11,7 +11,7 @@ use Rattle.qsr_top.specs.NextLine.{BeginsTooLong, BeginsWhole}
 use Rattle.qsr_top.specs.declared.line_buffer.TheConstants.{MAX_LINE}
 
 -- a byte that is no LF makes the first line longer
-lines_of-longer : (byte : ℕ) (bytes : List ℕ) → byte ≢ 10 → lines_of (byte ∷ bytes) ≡ longer byte (lines_of bytes)
+pub lines_of-longer : (byte : ℕ) (bytes : List ℕ) → byte ≢ 10 → lines_of (byte ∷ bytes) ≡ longer byte (lines_of bytes)
 lines_of-longer byte bytes not_lf = grind (arith, common_steps)
 
 whole_by : (line rest : List ℕ) → AllByRecursion (λ byte. byte ≢ 10) line → lines_of (line ++ 10 ∷ rest) ≡ whole line ∷ lines_of rest

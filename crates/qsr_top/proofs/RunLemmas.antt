@@ -7,7 +7,7 @@ use Rattle.disk_model.specs.View.{View}
 use Rattle.disk_model.proofs.Runs.{no_call}
 use Rattle.qsr_io.specs.Given.{GivesFront}
 use Rattle.qsr_top.specs.declared.end.End.{End}
-use Rattle.qsr_top.specs.declared.end.End.TheVariants.{Finished, BadLine, Usage, Refused, DiskFault, SourceFault, SinkFault, NoMemory}
+use Rattle.qsr_top.specs.declared.end.End.TheVariants.{Finished, BadLine, Usage, Refused, NotStore, DiskFault, SourceFault, SinkFault, NoMemory}
 use Rattle.qsr_top.specs.declared.script_line.ScriptLine.{ScriptLine}
 use Rattle.qsr_top.specs.Ends.{CausedBy, EndsIn, end_text}
 use Rattle.qsr_value.specs.Causes.{RoseByOne}
@@ -35,6 +35,7 @@ caused_cut SourceFault disk disk' source source' sink sink' sink'' goes cause ro
 caused_cut SinkFault disk disk' source source' sink sink' sink'' goes cause rose = absurd (goes refl)
 caused_cut Usage disk disk' source source' sink sink' sink'' goes cause rose = absurd cause
 caused_cut Refused disk disk' source source' sink sink' sink'' goes cause rose = absurd cause
+caused_cut NotStore disk disk' source source' sink sink' sink'' goes cause rose = absurd cause
 
 -- what the sink didn't cut off is what the run has written
 writes_whole : (left left' : Option (List ℕ)) (done : List ScriptLine) (cut : Option ScriptLine) (said : List ℕ) (end : End) (text : List ℕ) → (end ≡ SinkFault → ⊥)
@@ -43,6 +44,7 @@ writes_whole left left' done cut said Finished text goes is = is
 writes_whole left left' done cut said BadLine text goes is = is
 writes_whole left left' done cut said Usage text goes is = is
 writes_whole left left' done cut said Refused text goes is = is
+writes_whole left left' done cut said NotStore text goes is = is
 writes_whole left left' done cut said DiskFault text goes is = is
 writes_whole left left' done cut said SourceFault text goes is = is
 writes_whole left left' done cut said SinkFault text goes is = absurd (goes refl)

@@ -8,7 +8,7 @@ use Rattle.std.specs.Io.KnownBytes.{Appends, Keeps, prepend_known}
 use Rattle.qsr_io.specs.Given.{GivesFront}
 use Rattle.qsr_value.specs.Causes.{count_behind}
 use Rattle.qsr_top.specs.declared.end.End.{End}
-use Rattle.qsr_top.specs.declared.end.End.TheVariants.{Finished, BadLine, Usage, Refused, DiskFault, SourceFault, SinkFault, NoMemory}
+use Rattle.qsr_top.specs.declared.end.End.TheVariants.{Finished, BadLine, Usage, Refused, NotStore, DiskFault, SourceFault, SinkFault, NoMemory}
 use Rattle.qsr_top.specs.declared.line_buffer.TheConstants.{MAX_LINE}
 use Rattle.qsr_top.specs.declared.next_line.NextLine.TheVariants.{Whole, TooLong, Unended, End as NextEnd}
 use Rattle.qsr_top.specs.declared.reply.Reply.TheVariants.{BadLine as BadLineReply}
@@ -90,6 +90,7 @@ cut_to bytes left done line BadLine ends = cc
 cut_to bytes left done line SourceFault ends = cc
 cut_to bytes left done line Usage ends = absurd ends
 cut_to bytes left done line Refused ends = absurd ends
+cut_to bytes left done line NotStore ends = absurd ends
 
 reads_cut_line : (bytes left : Option (List ℕ)) (held : List ℕ) (len : ℕ) (done : List ScriptLine) (line : ScriptLine) (end : End)
     → IsAtTold bytes (prepend_known held left) done → BeginsWholeTold len held left → said (length done + 1) (whole (take len held)) ≡ Some line
@@ -116,6 +117,7 @@ cut_says BadLine done cut ends reads sent = absurd sent
 cut_says SourceFault done cut ends reads sent = absurd sent
 cut_says Usage done cut ends reads sent = absurd sent
 cut_says Refused done cut ends reads sent = absurd sent
+cut_says NotStore done cut ends reads sent = absurd sent
 
 -- a line is cut off
 pub Breaks-line : {tells : Type 0} {size : ℕ} {table : Table} {line : ScriptLine} {end : End} {given given' : Option (List ℕ)} {held held' : List ℕ} {reads reads' writes writes' : ℕ}

@@ -1,8 +1,8 @@
 -- The statuses of the process, and what is said of each end.
-use Rattle.std.specs.Prelude.{⊤, ◌≡◌, ◌⊎◌, ℕ, List, [], Option, None, Some, codes}
+use Rattle.std.specs.Prelude.{⊤, ◌≡◌, ◌⊎◌, ℕ, ◌≤◌, List, [], Option, None, Some, codes}
 use Rattle.qsr_value.specs.Causes.{RoseByOne}
 use Rattle.qsr_top.specs.declared.end.End.{End}
-use Rattle.qsr_top.specs.declared.end.End.TheVariants.{Finished, BadLine, Usage, Refused, DiskFault, SourceFault, SinkFault, NoMemory}
+use Rattle.qsr_top.specs.declared.end.End.TheVariants.{Finished, BadLine, Usage, Refused, NotStore, DiskFault, SourceFault, SinkFault, NoMemory}
 use Rattle.qsr_top.specs.declared.script_line.ScriptLine.{ScriptLine}
 use Rattle.qsr_top.specs.declared.script_line.ScriptLine.TheVariants.{Row, Turn, Rows}
 
@@ -11,6 +11,7 @@ status_of Finished = 0
 status_of BadLine = 1
 status_of Usage = 2
 status_of Refused = 8
+status_of NotStore = 7
 status_of DiskFault = 3
 status_of SourceFault = 4
 status_of SinkFault = 5
@@ -22,6 +23,7 @@ end_text Finished = []
 end_text BadLine = []
 end_text Usage = codes "usage: qsr FILE COMMAND\n"
 end_text Refused = []
+end_text NotStore = []
 end_text DiskFault = codes "disk fault\n"
 end_text SourceFault = codes "source fault\n"
 end_text SinkFault = []
@@ -43,6 +45,7 @@ CausedBy SourceFault disk disk' source source' sink sink' = (disk' ≡ disk) × 
 CausedBy SinkFault disk disk' source source' sink sink' = RoseOnceAtMost disk disk' × RoseOnceAtMost source source' × RoseByOne sink sink'
 CausedBy Usage disk disk' source source' sink sink' = ⊥
 CausedBy Refused disk disk' source source' sink sink' = ⊥
+CausedBy NotStore disk disk' source source' sink sink' = ⊥
 
 -- the cause of an end of a line, by the counts of the disk and the sink
 abbrev pub CausedByLine : End → ℕ → ℕ → ℕ → ℕ → Type 0
@@ -54,6 +57,7 @@ CausedByLine SinkFault disk disk' sink sink' = (disk' ≡ disk) × RoseByOne sin
 CausedByLine SourceFault disk disk' sink sink' = ⊥
 CausedByLine Usage disk disk' sink sink' = ⊥
 CausedByLine Refused disk disk' sink sink' = ⊥
+CausedByLine NotStore disk disk' sink sink' = ⊥
 
 -- the cause of an end of a turn
 abbrev pub CutsTurn : End → ℕ → ℕ → Type 0
@@ -65,6 +69,7 @@ CutsTurn SourceFault disk disk' = ⊥
 CutsTurn SinkFault disk disk' = ⊥
 CutsTurn Usage disk disk' = ⊥
 CutsTurn Refused disk disk' = ⊥
+CutsTurn NotStore disk disk' = ⊥
 
 -- Where a run has ended so: within a line, which it cut off, or between two lines.
 --   a fault of the disk comes within a line that calls it
@@ -80,3 +85,18 @@ EndsIn SinkFault cut = ⊤
 EndsIn NoMemory cut = ⊤
 EndsIn Usage cut = ⊥
 EndsIn Refused cut = ⊥
+EndsIn NotStore cut = ⊥
+
+-- The cause of a status, by the counts of faults of the disk, the source and the sink before and after: a fault is told only
+-- where that count rose by one, and where a count rose its fault is told, or that of the sink.
+pub record StatusCause (status disk disk' source source' sink sink' : ℕ) : Type 0 where
+  pub disk_fault : status ≡ status_of DiskFault → RoseByOne disk disk'
+  pub disk_told : (status ≡ status_of DiskFault) ⊎ (status ≡ status_of SinkFault) ⊎ (disk' ≡ disk)
+  pub source_fault : status ≡ status_of SourceFault → RoseByOne source source'
+  pub source_told : (status ≡ status_of SourceFault) ⊎ (status ≡ status_of SinkFault) ⊎ (source' ≡ source)
+  pub sink_fault : status ≡ status_of SinkFault → RoseByOne sink sink'
+  pub sink_told : (status ≡ status_of SinkFault) ⊎ (sink' ≡ sink)
+  pub usage : status ≡ status_of Usage → ⊥
+  pub disk_count : disk ≤ disk'
+  pub source_count : source ≤ source'
+  pub sink_count : sink ≤ sink'

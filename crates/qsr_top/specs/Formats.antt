@@ -4,13 +4,16 @@ use Rattle.std.specs.Fmt.{decimal}
 use Rattle.std.specs.Io.KnownBytes.{Appends}
 use Rattle.disk_model.specs.Image.{Image}
 use Rattle.disk_model.specs.View.{View, EachImage}
-use Rattle.page_store.specs.Format.{IsNew}
+use Rattle.page_store.specs.Opening.{IsEmptyStore}
+use Rattle.page_store.specs.Store.{contents_view}
+use Rattle.table_file.specs.Tables.{no_tables}
+use Rattle.qsr_top.specs.Stored.{StandsFor}
 use Rattle.page_store.specs.PageOrder.{parts}
 use Rattle.page_store.specs.declared.pages.Sizes.{Sizes}
 use Rattle.qsr_io.specs.Given.{GivesFront}
 use Rattle.qsr_value.specs.Causes.{RoseByOne}
 use Rattle.qsr_top.specs.declared.end.End.{End}
-use Rattle.qsr_top.specs.declared.end.End.TheVariants.{Finished, BadLine, Usage, Refused, DiskFault, SourceFault, SinkFault, NoMemory}
+use Rattle.qsr_top.specs.declared.end.End.TheVariants.{Finished, BadLine, Usage, Refused, NotStore, DiskFault, SourceFault, SinkFault, NoMemory}
 use Rattle.qsr_top.specs.Ends.{end_text}
 
 -- how many bytes a store of these sizes needs
@@ -27,6 +30,7 @@ too_small_text need have = codes "too small need " ++ (decimal need ++ (codes " 
 abbrev pub format_text : Sizes → ℕ → End → List ℕ
 format_text sizes size Finished = formatted_text (sum (parts sizes))
 format_text sizes size Refused = too_small_text (bytes_needed sizes) size
+format_text sizes size NotStore = end_text NotStore
 format_text sizes size BadLine = end_text BadLine
 format_text sizes size Usage = end_text Usage
 format_text sizes size DiskFault = end_text DiskFault
@@ -34,13 +38,19 @@ format_text sizes size SourceFault = end_text SourceFault
 format_text sizes size SinkFault = end_text SinkFault
 format_text sizes size NoMemory = end_text NoMemory
 
+-- each image that a crash now may leave is an empty store: it stands for no tables, and each job is free
+pub record IsEmpty (sizes : Sizes) (size : ℕ) (disk : View Image) : Type 0 where
+  pub empty : EachImage (contents_view sizes disk) (IsEmptyStore size sizes)
+  pub tables : StandsFor size sizes no_tables disk
+
 -- The ends that it comes to, and what each leaves: it is refused exactly where the disk is too small. Where it has
 -- formatted the disk and memory was wanting for what it says, the store is there.
 abbrev pub FormatsTo : Sizes → ℕ → View Image → End → Type 0
-FormatsTo sizes size disk Finished = (bytes_needed sizes ≤ size) × EachImage disk (IsNew sizes)
+FormatsTo sizes size disk Finished = (bytes_needed sizes ≤ size) × IsEmpty sizes size disk
 FormatsTo sizes size disk Refused = size < bytes_needed sizes
+FormatsTo sizes size disk NotStore = ⊥
 FormatsTo sizes size disk DiskFault = bytes_needed sizes ≤ size
-FormatsTo sizes size disk NoMemory = bytes_needed sizes ≤ size → EachImage disk (IsNew sizes)
+FormatsTo sizes size disk NoMemory = bytes_needed sizes ≤ size → IsEmpty sizes size disk
 FormatsTo sizes size disk BadLine = ⊥
 FormatsTo sizes size disk Usage = ⊥
 FormatsTo sizes size disk SourceFault = ⊥
@@ -51,6 +61,7 @@ abbrev pub FormatCause : End → ℕ → ℕ → Type 0
 FormatCause DiskFault old new = RoseByOne old new
 FormatCause Finished old new = new ≡ old
 FormatCause Refused old new = new ≡ old
+FormatCause NotStore old new = ⊥
 FormatCause NoMemory old new = new ≡ old
 FormatCause BadLine old new = ⊥
 FormatCause Usage old new = ⊥

@@ -5,7 +5,8 @@ use Rattle.std.specs.Option.{option_map}
 use Rattle.std.specs.Cmp.Lexicographic.{pointwise}
 use Rattle.qsr_top.specs.declared.script_line.ScriptLine.{ScriptLine}
 use Rattle.qsr_top.specs.declared.script_line.ScriptLine.TheVariants.{Row, Turn, Rows}
-use Rattle.qsr_top.specs.Number.{count_of, number_of}
+use Rattle.table_file.specs.Number.{number_of}
+use Rattle.qsr_top.specs.Number.{count_of}
 
 -- a line without the one carriage return that may stand at its end
 abbrev pub without_cr : List ℕ → List ℕ

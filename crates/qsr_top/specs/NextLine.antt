@@ -30,11 +30,11 @@ IsNext TooLong held unread = BeginsTooLong (lines_of unread)
 IsNext Unended held unread = lines_of unread ≡ unended held ∷ []
 IsNext End held unread = unread ≡ []
 
--- a whole line is held with its LF
+-- a whole line is held with its LF, and one that the input's end does is as short as a line may be
 abbrev pub IsHeld : NextLine → List ℕ → Type 0
 IsHeld (Whole len) held = (len < length held) × (len ≤ MAX_LINE)
 IsHeld TooLong held = ⊤
-IsHeld Unended held = ⊤
+IsHeld Unended held = length held ≤ MAX_LINE
 IsHeld End held = ⊤
 
 -- the same, where the source tells the bytes that it has left

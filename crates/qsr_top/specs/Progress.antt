@@ -6,7 +6,7 @@ use Rattle.qsr_value.specs.Causes.{count_behind}
 use Rattle.disk_model.specs.Image.{Image}
 use Rattle.disk_model.specs.View.{View, EachImage, LeavesOnly}
 use Rattle.qsr_top.specs.declared.end.End.{End}
-use Rattle.qsr_top.specs.declared.end.End.TheVariants.{Finished, BadLine, Usage, Refused, DiskFault, SourceFault, SinkFault, NoMemory}
+use Rattle.qsr_top.specs.declared.end.End.TheVariants.{Finished, BadLine, Usage, Refused, NotStore, DiskFault, SourceFault, SinkFault, NoMemory}
 use Rattle.qsr_top.specs.declared.script_line.ScriptLine.{ScriptLine}
 use Rattle.qsr_top.specs.declared.table.Table.{Table}
 use Rattle.qsr_top.specs.Answers.{AreAnswers, IsAnswer, IsPart, IsPartOf}
@@ -57,6 +57,7 @@ SentUpTo BadLine given now held text = ⊥
 SentUpTo SourceFault given now held text = ⊥
 SentUpTo Usage given now held text = ⊥
 SentUpTo Refused given now held text = ⊥
+SentUpTo NotStore given now held text = ⊥
 
 -- A line was cut off so: what was held before and a part of the answer were sent, or are held.
 pub record CutsOff (tells : Type 0) (size : ℕ) (table : Table) (line : ScriptLine) (end : End) (given now : Option (List ℕ)) (held held' : List ℕ) : Type 0 where

@@ -6,7 +6,7 @@ use Rattle.qsr_value.specs.Causes.{count_behind}
 use Rattle.disk_model.specs.Image.{Image}
 use Rattle.disk_model.specs.View.{View, EachImage, LeavesOnly}
 use Rattle.qsr_top.specs.declared.end.End.{End}
-use Rattle.qsr_top.specs.declared.end.End.TheVariants.{Finished, BadLine, Usage, Refused, DiskFault, SourceFault, SinkFault, NoMemory}
+use Rattle.qsr_top.specs.declared.end.End.TheVariants.{Finished, BadLine, Usage, Refused, NotStore, DiskFault, SourceFault, SinkFault, NoMemory}
 use Rattle.qsr_top.specs.declared.reply.Reply.TheVariants.{BadLine as BadLineReply}
 use Rattle.qsr_top.specs.declared.script_line.ScriptLine.{ScriptLine}
 use Rattle.qsr_top.specs.declared.script_line.ScriptLine.TheVariants.{Row, Turn, Rows}
@@ -35,6 +35,7 @@ ReadsTo bytes left done SinkFault = ⊤
 ReadsTo bytes left done NoMemory = ⊤
 ReadsTo bytes left done Usage = ⊥
 ReadsTo bytes left done Refused = ⊥
+ReadsTo bytes left done NotStore = ⊥
 
 -- the lines that a run has come to: those that were served, and the one that it cut off
 abbrev pub lines_come_to : List ScriptLine → Option ScriptLine → List ScriptLine
@@ -57,6 +58,7 @@ last_text done BadLine = text_of (BadLineReply (length done + 1))
 last_text done Finished = end_text Finished
 last_text done Usage = end_text Usage
 last_text done Refused = end_text Refused
+last_text done NotStore = end_text NotStore
 last_text done DiskFault = end_text DiskFault
 last_text done SourceFault = end_text SourceFault
 last_text done SinkFault = end_text SinkFault
@@ -80,6 +82,7 @@ Writes left left' done cut said Finished text = text ≡ whole_text done said Fi
 Writes left left' done cut said BadLine text = text ≡ whole_text done said BadLine
 Writes left left' done cut said Usage text = text ≡ whole_text done said Usage
 Writes left left' done cut said Refused text = text ≡ whole_text done said Refused
+Writes left left' done cut said NotStore text = text ≡ whole_text done said NotStore
 Writes left left' done cut said DiskFault text = text ≡ whole_text done said DiskFault
 Writes left left' done cut said SourceFault text = text ≡ whole_text done said SourceFault
 Writes left left' done cut said NoMemory text = text ≡ whole_text done said NoMemory

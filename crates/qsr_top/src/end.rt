@@ -12,6 +12,8 @@ pub enum End {
     Usage,
     /// A command was refused, and has said why.
     Refused,
+    /// What stands on the disk isn't of a store's form, and it was said where.
+    NotStore,
     DiskFault,
     SourceFault,
     SinkFault,
@@ -31,6 +33,7 @@ impl End {
             End::SourceFault => 4,
             End::SinkFault => 5,
             End::NoMemory => 6,
+            End::NotStore => 7,
             End::Refused => 8,
         }
     }
@@ -45,7 +48,7 @@ impl End {
             End::DiskFault => "disk fault\n",
             End::SourceFault => "source fault\n",
             End::NoMemory => "no memory\n",
-            End::Finished | End::BadLine | End::Refused | End::SinkFault => "",
+            End::Finished | End::BadLine | End::Refused | End::NotStore | End::SinkFault => "",
         }
     }
 }

@@ -7,9 +7,10 @@ ghost use Rattle.qsr_top.specs.Ends.{end_text};
 ghost use Rattle.qsr_top.specs.Formats.{Formatted, IsTold, bytes_needed, formatted_text, too_small_text};
 
 use crate::end::End;
+use crate::told::{say, tell};
 use disk_model::Disk;
 use page_store::{Sizes, StoreFault, format};
-use qsr_io::{Failed, Sink, put_all};
+use qsr_io::Sink;
 use std::alloc::{AllocError, Global};
 
 /// Formats the disk, and says what came of it.
@@ -28,27 +29,6 @@ pub fn run<D: Disk, K: Sink>(alloc: Global, sizes: Sizes, disk: &mut D, sink: &m
         Err(StoreFault::Failed | StoreFault::NotStore { .. }) => {
             tell(End::DiskFault.text(), End::DiskFault, sink)
         }
-    }
-}
-
-/// Tells a text and its end, or that there was no memory for the text.
-fn say<K: Sink>(text: Result<String, AllocError>, told: End, sink: &mut K) -> End
-    ensures ok { IfOk text (λ text. IsTold (string_bytes text) told result (K.given sink.old) (K.given sink.new) (K.faults_of sink.old) (K.faults_of sink.new)) }
-    ensures err { OnErr text (IsTold (end_text End.NoMemory) End.NoMemory result (K.given sink.old) (K.given sink.new) (K.faults_of sink.old) (K.faults_of sink.new)) }
-{
-    match text {
-        Ok(text) => tell(text.as_str(), told, sink),
-        Err(AllocError) => tell(End::NoMemory.text(), End::NoMemory, sink),
-    }
-}
-
-/// Tells a text and its end.
-fn tell<K: Sink>(text: &str, told: End, sink: &mut K) -> End
-    ensures { IsTold text.now told result (K.given sink.old) (K.given sink.new) (K.faults_of sink.old) (K.faults_of sink.new) }
-{
-    match put_all(sink, text.as_bytes()) {
-        Ok(()) => told,
-        Err(Failed) => End::SinkFault,
     }
 }
 

@@ -2,9 +2,11 @@
 #![tactic(auto)]
 
 mod command;
+mod creates;
 mod end;
 mod formats;
 mod line_buffer;
+mod loads;
 mod next_line;
 mod number;
 mod replies;
@@ -14,6 +16,7 @@ mod script_line;
 mod table;
 #[cfg(test)]
 mod tests;
+mod told;
 mod top;
 mod turns;
 

@@ -1,7 +1,8 @@
 ghost use Rattle.std.specs.Prelude.{◌≡◌};
 ghost use Rattle.qsr_top.specs.Grammar.{line_of, row_of, rows_of, turn_of, without_cr};
 
-use crate::number::{count_of, number_of};
+use crate::number::count_of;
+use table_file::number_of;
 
 /// What a line of a script asks for.
 #[derive(Clone, Copy, Debug, PartialEq, Eq)]

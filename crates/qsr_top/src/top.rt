@@ -1,18 +1,24 @@
-ghost use Rattle.std.specs.Prelude.{◌≡◌, ◌⊎◌, ◌<◌, ◌≤◌, ℕ, None, Some, map};
+ghost use Rattle.std.specs.Prelude.{◌≡◌, ◌⊎◌, ◌<◌, ◌≤◌, ℕ, List, None, Some, map};
 ghost use Rattle.std.specs.String.{string_bytes};
 ghost use Rattle.qsr_value.specs.Causes.{RoseByOne};
-ghost use Rattle.disk_model.specs.View.{LeavesOnly};
+ghost use Rattle.disk_model.specs.View.{After, LeavesOnly};
 ghost use Rattle.page_store.specs.Format.{IsOldNoneOrNew};
+ghost use Rattle.page_store.specs.Store.{contents_view};
 ghost use Rattle.page_store.specs.declared.pages.Sizes.{Sizes};
+ghost use Rattle.qsr_value.specs.declared.schema.Column.{Column};
+ghost use Rattle.table_file.specs.Tables.{AreTables, OnlyTables, Tables, with_table};
+ghost use Rattle.qsr_top.specs.Creating.{CreateRan};
 ghost use Rattle.qsr_top.specs.Ends.{status_of};
 ghost use Rattle.qsr_top.specs.Formats.{Formatted, bytes_needed};
+ghost use Rattle.qsr_top.specs.Loading.{LoadRan, StandsLoaded};
 ghost use Rattle.qsr_top.specs.Run.{Ran};
+ghost use Rattle.qsr_top.specs.Stored.{Stands, StandsFor};
 ghost use Rattle.qsr_top.specs.Usage.{Says};
-ghost use Rattle.qsr_top.specs.Words.{command_of};
+ghost use Rattle.qsr_top.specs.Words.{command_of, named_columns, named_table};
 
 use crate::command::{Command, command_of};
 use crate::end::End;
-use crate::{formats, script};
+use crate::{creates, formats, loads, script};
 use disk_model::Disk;
 use qsr_io::{Sink, Source, put_all};
 use std::alloc::Global;
@@ -62,6 +68,34 @@ pub fn qsr_run<D: Disk, S: Source, K: Sink>(
         → D.size_of disk.old < bytes_needed sizes → disk.new ≡ disk.old }
     ensures format_input { (sizes : Sizes) → command_of (map string_bytes words.now) ≡ Some (Command.Format sizes) → input.new ≡ input.old }
 
+    // `create` on a disk that stands for some tables says whether they have the new one, and leaves them with it or as they
+    // were: it is refused exactly where there is a reason for it, the first of which is told. A crash at any moment leaves the
+    // tables with it or without it, and all else of the store as it was. The input isn't read.
+    ensures create { (columns : List Column) → command_of (map string_bytes words.now) ≡ Some Command.Create → named_columns (map string_bytes words.now) ≡ Some columns
+        → (end : End) × (result ≡ status_of end) × CreateRan (D.size_of disk.old) (named_table (map string_bytes words.now)) columns (D.view disk.old) (D.view disk.new)
+        (K.given out.old) (K.given out.new) (D.faults_of disk.old) (D.faults_of disk.new) (K.faults_of out.old) (K.faults_of out.new) end }
+    ensures create_crash { (columns : List Column) (sizes : Sizes) (s : Tables) → command_of (map string_bytes words.now) ≡ Some Command.Create
+        → named_columns (map string_bytes words.now) ≡ Some columns → AreTables sizes s → StandsFor (D.size_of disk.old) sizes s (D.view disk.old) → (D.view disk.old).honest
+        → LeavesOnly (contents_view sizes (D.view disk.old)) (contents_view sizes (D.view disk.new))
+        (λ m. Stands (D.size_of disk.old) sizes s m ⊎ Stands (D.size_of disk.old) sizes (with_table s (named_table (map string_bytes words.now)) columns) m) }
+    ensures create_input { command_of (map string_bytes words.now) ≡ Some Command.Create → input.new ≡ input.old }
+
+    // `load` on a disk that stands for some tables says whether the rows of the input are behind those of the table, all of
+    // them, and leaves the tables with them or as they were: refused exactly where there is no such table, where the input has
+    // a bad line or a bad field, the first of which is told, or where the table has no room. A crash at any moment leaves the
+    // tables with all these rows or with none, and all else of the store as it was.
+    ensures load { command_of (map string_bytes words.now) ≡ Some Command.Load
+        → (end : End) × (result ≡ status_of end) × LoadRan (D.size_of disk.old) (named_table (map string_bytes words.now)) (S.left input.old) (S.left input.new)
+        (D.view disk.old) (D.view disk.new) (K.given out.old) (K.given out.new)
+        (D.faults_of disk.old) (D.faults_of disk.new) (S.faults_of input.old) (S.faults_of input.new) (K.faults_of out.old) (K.faults_of out.new) end }
+    ensures load_crash { (sizes : Sizes) (s : Tables) → command_of (map string_bytes words.now) ≡ Some Command.Load
+        → AreTables sizes s → StandsFor (D.size_of disk.old) sizes s (D.view disk.old) → (D.view disk.old).honest
+        → LeavesOnly (contents_view sizes (D.view disk.old)) (contents_view sizes (D.view disk.new))
+        (λ m. Stands (D.size_of disk.old) sizes s m ⊎ StandsLoaded (D.size_of disk.old) sizes s (named_table (map string_bytes words.now)) (S.left input.old) m) }
+    ensures tables_others { (sizes : Sizes) (s : Tables) → (command_of (map string_bytes words.now) ≡ Some Command.Create) ⊎ (command_of (map string_bytes words.now) ≡ Some Command.Load)
+        → AreTables sizes s → StandsFor (D.size_of disk.old) sizes s (D.view disk.old) → (D.view disk.old).honest
+        → LeavesOnly (contents_view sizes (D.view disk.old)) (contents_view sizes (D.view disk.new)) (After OnlyTables (contents_view sizes (D.view disk.old))) }
+
     // A fault of the disk, the source or the sink is answered only where that count rose, by one. None is passed over:
     // where a count rose its status is answered, or that of the sink, where the sink has failed as well.
     ensures disk_fault { result ≡ status_of End.DiskFault → RoseByOne (D.faults_of disk.old) (D.faults_of disk.new) }
@@ -80,6 +114,8 @@ pub fn qsr_run<D: Disk, S: Source, K: Sink>(
     match command_of(words) {
         Some(Command::Script) => script::run(alloc, disk, input, out).status(),
         Some(Command::Format { sizes }) => formats::run(alloc, sizes, disk, out).status(),
+        Some(Command::Create) => creates::run(alloc, words, disk, out).status(),
+        Some(Command::Load) => loads::run_named(alloc, words, disk, input, out).status(),
         None => say_end(End::Usage, out),
     }
 }

@@ -1,7 +1,7 @@
 use Rattle.std.proofs.Common.{◌≡◌, ◌∙◌, true, rules}
 use Rattle.std.specs.Str.Parse.{ParsesUnsigned}
 use Rattle.qsr_top.specs.declared.number.TheConstants.{MAX_DIGITS}
-use Rattle.qsr_top.specs.Number.{is_digits}
+use Rattle.table_file.specs.Number.{is_digits}
 use Rattle.qsr_top.proofs.NumberLemmas.{parsed_count, IsUtf8-digits}
 use Rattle.qsr_top.proofs.number.count_of.Goals as goal
 

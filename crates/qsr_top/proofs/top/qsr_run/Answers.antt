@@ -8,3 +8,6 @@ returns-in-None-clause-statuses g c =
       | inl said ↦ (Usage, said.0)
       | inr failed ↦ (SinkFault, failed.0)
     ]
+
+pub returns-in-Some-Create-clause-create_crash : goal.returns-in-Some-Create-clause-create_crash
+returns-in-Some-Create-clause-create_crash g c columns sizes s is named are stands honest = c.run-in-Some-Create.ensures.any_moment columns sizes s named are stands honest

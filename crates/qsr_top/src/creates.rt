@@ -1,0 +1,128 @@
+ghost use Rattle.std.specs.Prelude.{◌≡◌, ◌⊎◌, ◌≤◌, ℕ, List, Some, length, map};
+ghost use Rattle.std.specs.List.{AllByRecursion};
+ghost use Rattle.std.specs.String.{string_bytes};
+ghost use Rattle.disk_model.specs.View.{After, LeavesOnly};
+ghost use Rattle.page_store.specs.Store.{IsReady, contents_view, store_view};
+ghost use Rattle.page_store.specs.declared.pages.Sizes.{Sizes};
+ghost use Rattle.table_file.specs.CatalogueBytes.{IsColumn, IsName};
+ghost use Rattle.table_file.specs.Tables.{AreTables, OnlyTables, Tables, with_table};
+ghost use Rattle.qsr_top.specs.Creating.{ComesToCreate, CreateRan, Creates, IsToldOfCatalogue, told_of_fault, told_of_opening};
+ghost use Rattle.qsr_value.specs.declared.schema.Column.{Column};
+ghost use Rattle.qsr_top.specs.Ends.{StatusCause, status_of};
+ghost use Rattle.qsr_top.specs.Stored.{Stands, StandsFor};
+ghost use Rattle.qsr_top.specs.Told.{ToldCause};
+ghost use Rattle.qsr_top.specs.Words.{command_of, named_columns, named_table};
+
+use crate::command::{Command, schema_of};
+use crate::end::End;
+use crate::told::Told;
+use disk_model::Disk;
+use page_store::{Store, StoreFault};
+use qsr_io::Sink;
+use qsr_value::{Memory, Schema};
+use std::alloc::Global;
+use table_file::{Catalogue, TableFault};
+
+/// Creates the table that the words name, and says what came of it.
+pub fn run<D: Disk, K: Sink>(alloc: Global, words: &[String], disk: &mut D, sink: &mut K) -> End
+    requires { command_of (map string_bytes words.now) ≡ Some Command.Create }
+    ensures ran { (columns : List Column) → named_columns (map string_bytes words.now) ≡ Some columns
+        → CreateRan (D.size_of disk.old) (named_table (map string_bytes words.now)) columns (D.view disk.old) (D.view disk.new) (K.given sink.old) (K.given sink.new)
+        (D.faults_of disk.old) (D.faults_of disk.new) (K.faults_of sink.old) (K.faults_of sink.new) result }
+    ensures cause { StatusCause (status_of result) (D.faults_of disk.old) (D.faults_of disk.new) 0 0 (K.faults_of sink.old) (K.faults_of sink.new) }
+    ensures any_moment { (columns : List Column) (sizes : Sizes) (s : Tables) → named_columns (map string_bytes words.now) ≡ Some columns → AreTables sizes s
+        → StandsFor (D.size_of disk.old) sizes s (D.view disk.old) → (D.view disk.old).honest → LeavesOnly (contents_view sizes (D.view disk.old)) (contents_view sizes (D.view disk.new))
+        (λ m. Stands (D.size_of disk.old) sizes s m ⊎ Stands (D.size_of disk.old) sizes (with_table s (named_table (map string_bytes words.now)) columns) m) }
+    ensures others { (sizes : Sizes) (s : Tables) → AreTables sizes s → StandsFor (D.size_of disk.old) sizes s (D.view disk.old) → (D.view disk.old).honest
+        → LeavesOnly (contents_view sizes (D.view disk.old)) (contents_view sizes (D.view disk.new)) (After OnlyTables (contents_view sizes (D.view disk.old))) }
+{
+    let told = create_named(alloc, words, disk);
+    told.tell(alloc, words[2].as_str(), sink)
+}
+
+/// Creates the table that the words name.
+fn create_named<D: Disk>(alloc: Global, words: &[String], disk: &mut D) -> Told
+    requires { command_of (map string_bytes words.now) ≡ Some Command.Create }
+    ensures comes { (columns : List Column) → named_columns (map string_bytes words.now) ≡ Some columns
+        → ComesToCreate (D.size_of disk.old) (named_table (map string_bytes words.now)) columns (D.view disk.old) (D.view disk.new) (D.faults_of disk.old) (D.faults_of disk.new) result }
+    ensures cause { (source : ℕ) → ToldCause result (D.faults_of disk.old) (D.faults_of disk.new) source source }
+    ensures any_moment { (columns : List Column) (sizes : Sizes) (s : Tables) → named_columns (map string_bytes words.now) ≡ Some columns → AreTables sizes s
+        → StandsFor (D.size_of disk.old) sizes s (D.view disk.old) → (D.view disk.old).honest → LeavesOnly (contents_view sizes (D.view disk.old)) (contents_view sizes (D.view disk.new))
+        (λ m. Stands (D.size_of disk.old) sizes s m ⊎ Stands (D.size_of disk.old) sizes (with_table s (named_table (map string_bytes words.now)) columns) m) }
+    ensures others { (sizes : Sizes) (s : Tables) → AreTables sizes s → StandsFor (D.size_of disk.old) sizes s (D.view disk.old) → (D.view disk.old).honest
+        → LeavesOnly (contents_view sizes (D.view disk.old)) (contents_view sizes (D.view disk.new)) (After OnlyTables (contents_view sizes (D.view disk.old))) }
+{
+    match schema_of(alloc, &words[3..]) {
+        Ok(schema) => create(alloc, words[2].as_str(), schema, disk),
+        Err(Memory) => Told::NoMemory,
+    }
+}
+
+/// Creates a table.
+fn create<D: Disk>(alloc: Global, name: &str, schema: Schema, disk: &mut D) -> Told
+    requires name { IsName name.now }
+    requires columns { (1 ≤ length schema) × (length schema ≤ 16) × AllByRecursion IsColumn schema }
+    ensures comes { ComesToCreate (D.size_of disk.old) name.now schema (D.view disk.old) (D.view disk.new) (D.faults_of disk.old) (D.faults_of disk.new) result }
+    ensures any_moment { (sizes : Sizes) (s : Tables) → AreTables sizes s → StandsFor (D.size_of disk.old) sizes s (D.view disk.old) → (D.view disk.old).honest
+        → LeavesOnly (contents_view sizes (D.view disk.old)) (contents_view sizes (D.view disk.new))
+        (λ m. Stands (D.size_of disk.old) sizes s m ⊎ Stands (D.size_of disk.old) sizes (with_table s name.now schema) m) }
+    ensures others { (sizes : Sizes) (s : Tables) → AreTables sizes s → StandsFor (D.size_of disk.old) sizes s (D.view disk.old) → (D.view disk.old).honest
+        → LeavesOnly (contents_view sizes (D.view disk.old)) (contents_view sizes (D.view disk.new)) (After OnlyTables (contents_view sizes (D.view disk.old))) }
+{
+    match Store::open(disk) {
+        Ok(mut store) => create_in(alloc, name, schema, &mut store),
+        Err(unopened) => told_of_opening(unopened.fault),
+    }
+}
+
+/// What is told of a store that isn't opened.
+pub fn told_of_opening(fault: StoreFault) -> Told
+    ensures { result ≡ told_of_opening fault }
+{
+    match fault {
+        StoreFault::NotStore { page } => Told::NotStore { page },
+        StoreFault::Failed | StoreFault::TooSmall { .. } => Told::DiskFault,
+    }
+}
+
+/// What is told of a fault of a call on tables.
+pub fn told_of_fault(fault: TableFault) -> Told
+    ensures { result ≡ told_of_fault fault }
+{
+    match fault {
+        TableFault::Exists => Told::Exists,
+        TableFault::CatalogFull => Told::CatalogueFull,
+        TableFault::RowTooWide { bytes } => Told::RowTooWide { bytes },
+        TableFault::NoTable => Told::NoTable,
+        TableFault::BadField { line, column } => Told::BadField { line, column },
+        TableFault::TableFull => Told::TableFull,
+        TableFault::NotStore { page } => Told::NotStore { page },
+        TableFault::Failed => Told::DiskFault,
+        TableFault::Memory => Told::NoMemory,
+    }
+}
+
+/// Creates a table in an open store.
+fn create_in<D: Disk>(alloc: Global, name: &str, schema: Schema, store: &mut Store<'_, D>) -> Told
+    requires name { IsName name.now }
+    requires columns { (1 ≤ length schema) × (length schema ≤ 16) × AllByRecursion IsColumn schema }
+    ensures cause { (source : ℕ) → ToldCause result (D.faults_of store.old.disk.now) (D.faults_of store.new.disk.now) source source }
+    ensures none { IsToldOfCatalogue store.old.sizes ((store_view store.old).honest) ((store_view store.old).seen) result }
+    ensures creates { IsReady store.old → (s : Tables) → AreTables store.old.sizes s → StandsFor (D.size_of store.old.disk.now) store.old.sizes s (D.view store.old.disk.now)
+        → (store_view store.old).honest → Creates (D.size_of store.old.disk.now) store.old.sizes s name.now schema (D.view store.new.disk.now) result }
+    ensures any_moment { IsReady store.old → (s : Tables) → AreTables store.old.sizes s → StandsFor (D.size_of store.old.disk.now) store.old.sizes s (D.view store.old.disk.now)
+        → (store_view store.old).honest → LeavesOnly (store_view store.old) (store_view store.new)
+        (λ m. Stands (D.size_of store.old.disk.now) store.old.sizes s m ⊎ Stands (D.size_of store.old.disk.now) store.old.sizes (with_table s name.now schema) m) }
+    ensures others { LeavesOnly (store_view store.old) (store_view store.new) (After OnlyTables (store_view store.old)) }
+    ensures sizes { store.new.sizes ≡ store.old.sizes }
+    ensures same { store.new.disk.ghost_name ≡ store.old.disk.ghost_name }
+{
+    let mut catalogue = match Catalogue::load(alloc, store) {
+        Ok(catalogue) => catalogue,
+        Err(fault) => return told_of_fault(fault),
+    };
+    match catalogue.create(alloc, store, name, schema) {
+        Ok(()) => Told::Created,
+        Err(fault) => told_of_fault(fault),
+    }
+}
