@@ -1,0 +1,3 @@
+pub mod Checking
+mod ExampleGrammar
+pub mod Reading
