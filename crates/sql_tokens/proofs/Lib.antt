@@ -1,0 +1,4 @@
+pub mod Fronts
+pub mod Order
+pub mod Passing
+pub mod Steps
