@@ -4,6 +4,7 @@ use Rattle.std.specs.Prelude.{Result, IfOk, OnErr, Some, slice_get, sum}
 use Rattle.std.specs.Prelude.Result.{Ok, Err}
 use Rattle.disk_model.specs.Image.{Image}
 use Rattle.disk_model.specs.View.{View, EachImage}
+use Rattle.page_store.specs.Format.{IsNew}
 use Rattle.page_store.specs.Opening.{IsEmptyStore}
 use Rattle.page_store.specs.PageOrder.{parts}
 use Rattle.page_store.specs.Store.{Contents, contents_of, contents_view}
@@ -51,9 +52,10 @@ empty_stands size sizes m empty = record {
 }
 
 -- What `format` leaves.
-pub is_empty : (size : ℕ) (sizes : Sizes) (disk : View Image) → EachImage disk (λ c. IsEmptyStore size sizes (contents_of sizes c)) → IsEmpty sizes size disk
+pub is_empty : (size : ℕ) (sizes : Sizes) (disk : View Image) → EachImage disk (IsNew sizes) → EachImage disk (λ c. IsEmptyStore size sizes (contents_of sizes c)) → IsEmpty sizes size disk
 unfolding contents_view
-is_empty size sizes disk each = record {
+is_empty size sizes disk new each = record {
+  bytes = new;
   empty = λ m left. subst (IsEmptyStore size sizes) left.2 (each left.0 left.1);
   tables = λ m left. empty_stands size sizes m (subst (IsEmptyStore size sizes) left.2 (each left.0 left.1));
 }

@@ -4,6 +4,7 @@ use Rattle.std.specs.Fmt.{decimal}
 use Rattle.std.specs.Io.KnownBytes.{Appends}
 use Rattle.disk_model.specs.Image.{Image}
 use Rattle.disk_model.specs.View.{View, EachImage}
+use Rattle.page_store.specs.Format.{IsNew}
 use Rattle.page_store.specs.Opening.{IsEmptyStore}
 use Rattle.page_store.specs.Store.{contents_view}
 use Rattle.table_file.specs.Tables.{no_tables}
@@ -38,8 +39,9 @@ format_text sizes size SourceFault = end_text SourceFault
 format_text sizes size SinkFault = end_text SinkFault
 format_text sizes size NoMemory = end_text NoMemory
 
--- each image that a crash now may leave is an empty store: it stands for no tables, and each job is free
+-- each image that a crash now may leave is an empty store, byte by byte: it stands for no tables, and each job is free
 pub record IsEmpty (sizes : Sizes) (size : ℕ) (disk : View Image) : Type 0 where
+  pub bytes : EachImage disk (IsNew sizes)
   pub empty : EachImage (contents_view sizes disk) (IsEmptyStore size sizes)
   pub tables : StandsFor size sizes no_tables disk
 

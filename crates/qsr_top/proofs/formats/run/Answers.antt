@@ -16,5 +16,5 @@ returns-in-Ok-clause-ran g c =
     Formatted-done string_bytes c.formatted.result c.args.sizes (g.D.Disk.size_of c.args.disk.now) c.in-Ok.pages c.say.result
     (g.K.Sink.given c.args.sink.now) (g.K.Sink.given c.say.new.sink) (g.D.Disk.view c.format.new.disk)
     (g.D.Disk.faults_of c.args.disk.now) (g.D.Disk.faults_of c.format.new.disk) (g.K.Sink.faults_of c.args.sink.now) (g.K.Sink.faults_of c.say.new.sink)
-    c.in-Ok.ensures.fits (is_empty (g.D.Disk.size_of c.args.disk.now) c.args.sizes (g.D.Disk.view c.format.new.disk) c.in-Ok.ensures.empty) c.in-Ok.ensures.pages c.in-Ok.ensures.faults
+    c.in-Ok.ensures.fits (is_empty (g.D.Disk.size_of c.args.disk.now) c.args.sizes (g.D.Disk.view c.format.new.disk) c.in-Ok.ensures.formatted c.in-Ok.ensures.empty) c.in-Ok.ensures.pages c.in-Ok.ensures.faults
     c.formatted.ensures c.say.ensures.ok c.say.ensures.err
