@@ -1,4 +1,6 @@
+pub mod Copies
 pub mod Fronts
 pub mod Order
 pub mod Passing
+pub mod Standing
 pub mod Steps

@@ -5,7 +5,7 @@ use Rattle.sql_tokens.specs.Tokens.{tokens_from, token_at, is_last, is_number, P
 use Rattle.sql_tokens.specs.Words.{is_blank, begins_name}
 
 -- what holds of both
-choose : {X : Type 0} (P : X → Type 0) (x : Bool) (a b : X) → P a → P b → P (if x then a else b)
+pub choose : {X : Type 0} (P : X → Type 0) (x : Bool) (a b : X) → P a → P b → P (if x then a else b)
 choose P true a b pa pb = pa
 choose P false a b pa pb = pb
 

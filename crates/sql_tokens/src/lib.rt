@@ -6,9 +6,13 @@ mod lexer;
 mod scan;
 #[cfg(test)]
 mod tests;
+mod texts;
+#[cfg(test)]
+mod texts_tests;
 mod token;
 mod words;
 
-pub use laws::tokens_are_in_order;
+pub use laws::{texts_stand_there, tokens_are_in_order};
 pub use lexer::Lexer;
+pub use texts::text_value;
 pub use token::{Keyword, Name, Token, What};

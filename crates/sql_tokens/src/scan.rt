@@ -88,7 +88,7 @@ fn is_behind(marked: bool, b: u8) -> bool
 }
 
 /// Whether this byte is a mark that may be a text's last.
-fn is_open_mark(marked: bool, b: u8) -> bool
+pub(crate) fn is_open_mark(marked: bool, b: u8) -> bool
     ensures { result ≡ (b == 39 && not marked) }
 {
     b == b'\'' && !marked

@@ -1,3 +1,2 @@
 pub mod Checking
-mod ExampleGrammar
 pub mod Reading

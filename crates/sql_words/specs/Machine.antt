@@ -42,14 +42,9 @@ module _ {Fault State : Type 0} (tells : Fault → Option Refusal) where
   outcome o (Ok x) f = f x
   outcome o (Err e) f = at_fault o (tells e)
 
-  -- From a state over the old tokens it goes as from what comes after the value over the new ones, or it stops as the fault
-  -- tells. One equation for all outcomes, so that those of callees make one chain.
-  abbrev pub Leads : {X Token : Type 0} → (State → List Token → Outcome State) → State → List Token → Result X Fault → (X → State) → List Token → Type 0
-  Leads running from old result to new = running from old ≡ outcome (running from old) result (λ x. running (to x) new)
-
   -- a whole parser's equation: it reads the tree's last state, or stops as the fault tells
-  abbrev pub Parses : {Value Tree Token : Type 0} → (State → List Token → Outcome State) → State → (Tree → State) → (Value → Tree) → List Token → Result Value Fault → Type 0
-  Parses running start ended tree_of ts result = running start ts ≡ outcome (running start ts) result (λ v. Read (ended (tree_of v)))
+  abbrev pub Parses : {Value Tree Input : Type 0} → (State → Input → Outcome State) → State → (Tree → State) → (Value → Tree) → Input → Result Value Fault → Type 0
+  Parses running start ended tree_of tokens result = running start tokens ≡ outcome (running start tokens) result (λ v. Read (ended (tree_of v)))
 
 -- What makes a machine that of a grammar. `said` and `signed` are what a state says of the tokens before it: their marks, and
 -- the place of a `-` where that is the last of them.
