@@ -1,0 +1,9 @@
+pub mod Machine
+pub mod Reads
+pub mod Said
+pub mod Seen
+pub mod Spell
+pub mod Tail
+pub mod Tree
+pub mod View
+pub mod Words

@@ -1,0 +1,127 @@
+ghost use Rattle.std.specs.Prelude.{◌≡◌};
+ghost use Rattle.sql_front.specs.Seen.{letters_of};
+ghost use Rattle.sql_front.specs.Words.{spelled, same_letters, first_spelled, unreserved};
+
+use sql_tokens::Name;
+
+/// How two sides are compared.
+#[derive(Clone, Copy, Debug, PartialEq, Eq)]
+pub enum Comparison {
+    Equal,
+    Unequal,
+    Less,
+    AtMost,
+    More,
+    AtLeast,
+}
+
+/// What is computed of a column over the rows of a group.
+#[derive(Clone, Copy, Debug, PartialEq, Eq)]
+pub enum Aggregate {
+    Sum,
+    Min,
+    Max,
+}
+
+/// A size that an option sets.
+#[derive(Clone, Copy, Debug, PartialEq, Eq)]
+pub enum Setting {
+    Block,
+    Parts,
+    Sort,
+}
+
+/// A way of joining that an option asks for.
+#[derive(Clone, Copy, Debug, PartialEq, Eq)]
+pub enum Method {
+    Block,
+    Index,
+    Merge,
+    Hash,
+}
+
+/// A word that is a name elsewhere.
+#[derive(Clone, Copy, Debug, PartialEq, Eq)]
+pub(crate) enum Unreserved {
+    Left,
+    Semi,
+    Anti,
+    Union,
+    All,
+    Block,
+    Parts,
+    Sort,
+    Use,
+    Index,
+    Merge,
+    Hash,
+}
+
+const EVERY_UNRESERVED: [Unreserved; 12] = [
+    Unreserved::Left,
+    Unreserved::Semi,
+    Unreserved::Anti,
+    Unreserved::Union,
+    Unreserved::All,
+    Unreserved::Block,
+    Unreserved::Parts,
+    Unreserved::Sort,
+    Unreserved::Use,
+    Unreserved::Index,
+    Unreserved::Merge,
+    Unreserved::Hash,
+];
+
+fn spelled(word: Unreserved) -> &'static [u8]
+    ensures { result.now ≡ spelled word }
+{
+    match word {
+        Unreserved::Left => b"left",
+        Unreserved::Semi => b"semi",
+        Unreserved::Anti => b"anti",
+        Unreserved::Union => b"union",
+        Unreserved::All => b"all",
+        Unreserved::Block => b"block",
+        Unreserved::Parts => b"parts",
+        Unreserved::Sort => b"sort",
+        Unreserved::Use => b"use",
+        Unreserved::Index => b"index",
+        Unreserved::Merge => b"merge",
+        Unreserved::Hash => b"hash",
+    }
+}
+
+fn same_letters(word: &[u8], letters: &[u8]) -> bool
+    ensures { result ≡ same_letters word.now letters.now }
+{
+    word == letters
+}
+
+/// The first of these words that has these letters.
+fn first_spelled(words: &[Unreserved], letters: &[u8]) -> Option<Unreserved>
+    ensures { result ≡ first_spelled words.now letters.now }
+{
+    for word in words {
+        if same_letters(spelled(*word), letters) {
+            return Some(*word);
+        }
+    }
+    None
+}
+
+fn letters_of(name: &Name) -> &[u8]
+    ensures { result.now ≡ letters_of name.now }
+{
+    let (letters, _) = name
+        .bytes
+        .split_at((name.len as usize).min(name.bytes.len()));
+    letters
+}
+
+/// The word that a name is where such a word may stand.
+#[tactic(auto, unfolding(crate::specs::Words::unreserved))]
+pub(crate) fn word_of(name: &Name) -> Option<Unreserved>
+    ensures { result ≡ unreserved (letters_of name.now) }
+{
+    first_spelled(&EVERY_UNRESERVED, letters_of(name))
+}
