@@ -1,5 +1,6 @@
 pub mod Copies
 pub mod Fronts
+pub mod Lengths
 pub mod Order
 pub mod Passing
 pub mod Standing

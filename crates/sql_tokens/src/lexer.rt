@@ -16,6 +16,8 @@ struct Told<'t> {
 }
 
 /// The first token of these bytes, the first of which is at this place.
+// Inlined, so that a token is made in its place and not copied there.
+#[inline(always)]
 fn first_of<'t>(bytes: &'t [u8], at: u32) -> Told<'t>
     requires { at + length bytes.now < 2 ^ 32 }
     ensures tokens { tokens_from bytes.now 0 false at ≡ told_from result.token result.rest.now result.at }

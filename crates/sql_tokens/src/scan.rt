@@ -26,7 +26,7 @@ pub(crate) fn begins_name(b: u8) -> bool
 fn in_name(b: u8) -> bool
     ensures { result ≡ spec.in_name b }
 {
-    b.is_ascii_alphanumeric() || b == b'_'
+    begins_name(b) || b.is_ascii_digit()
 }
 
 /// How many blanks stand at the front.
@@ -177,6 +177,8 @@ fn sign_at(b: u8, rest: &[u8]) -> Scanned
 }
 
 /// The token at the front, where no blank stands.
+// Inlined, so that a sign, which is one byte, costs no call.
+#[inline(always)]
 pub(crate) fn token_at(bytes: &[u8]) -> Scanned
     requires some { 0 < length bytes.now }
     requires fits { length bytes.now < 2 ^ 32 }

@@ -4,30 +4,41 @@ ghost use Rattle.sql_tokens.specs.Words as spec;
 
 use crate::{Keyword, Name, What};
 
-/// The reserved words, in small letters.
-const RESERVED: [(&[u8], Keyword); 21] = [
-    (b"select", Keyword::Select),
-    (b"distinct", Keyword::Distinct),
-    (b"from", Keyword::From),
-    (b"join", Keyword::Join),
+// The reserved words by their length, in small letters: a word is looked for among those of its own length alone.
+
+const OF_TWO: [(&[u8], Keyword); 4] = [
     (b"on", Keyword::On),
-    (b"where", Keyword::Where),
-    (b"and", Keyword::And),
     (b"or", Keyword::Or),
-    (b"not", Keyword::Not),
-    (b"group", Keyword::Group),
     (b"by", Keyword::By),
-    (b"order", Keyword::Order),
-    (b"asc", Keyword::Asc),
-    (b"desc", Keyword::Desc),
-    (b"limit", Keyword::Limit),
     (b"as", Keyword::As),
-    (b"count", Keyword::Count),
+];
+
+const OF_THREE: [(&[u8], Keyword); 6] = [
+    (b"and", Keyword::And),
+    (b"not", Keyword::Not),
+    (b"asc", Keyword::Asc),
     (b"sum", Keyword::Sum),
     (b"min", Keyword::Min),
     (b"max", Keyword::Max),
-    (b"option", Keyword::Option),
 ];
+
+const OF_FOUR: [(&[u8], Keyword); 3] = [
+    (b"from", Keyword::From),
+    (b"join", Keyword::Join),
+    (b"desc", Keyword::Desc),
+];
+
+const OF_FIVE: [(&[u8], Keyword); 5] = [
+    (b"where", Keyword::Where),
+    (b"group", Keyword::Group),
+    (b"order", Keyword::Order),
+    (b"limit", Keyword::Limit),
+    (b"count", Keyword::Count),
+];
+
+const OF_SIX: [(&[u8], Keyword); 2] = [(b"select", Keyword::Select), (b"option", Keyword::Option)];
+
+const OF_EIGHT: [(&[u8], Keyword); 1] = [(b"distinct", Keyword::Distinct)];
 
 const MOST_LETTERS: usize = 16;
 
@@ -37,9 +48,9 @@ fn name_of(letters: &[u8]) -> Name
     ensures { result ≡ spec.name_of letters.now }
 {
     let mut bytes = [0; MOST_LETTERS];
-    let named = &mut bytes[..letters.len()];
-    named.copy_from_slice(letters);
-    named.make_ascii_lowercase();
+    for at in 0..letters.len() {
+        bytes[at] = letters[at].to_ascii_lowercase();
+    }
     Name {
         len: letters.len() as u8,
         bytes,
@@ -64,10 +75,19 @@ fn keyword_in(words: &[(&[u8], Keyword)], letters: &[u8]) -> Option<Keyword>
     None
 }
 
+/// The reserved word that has these letters, in any case.
 fn keyword_of(letters: &[u8]) -> Option<Keyword>
     ensures { result ≡ spec.keyword_of letters.now }
 {
-    keyword_in(&RESERVED, letters)
+    match letters.len() {
+        2 => keyword_in(&OF_TWO, letters),
+        3 => keyword_in(&OF_THREE, letters),
+        4 => keyword_in(&OF_FOUR, letters),
+        5 => keyword_in(&OF_FIVE, letters),
+        6 => keyword_in(&OF_SIX, letters),
+        8 => keyword_in(&OF_EIGHT, letters),
+        _ => None,
+    }
 }
 
 /// What these letters are: a reserved word, a name, or too long for a name.
