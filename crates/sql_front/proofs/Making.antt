@@ -1,6 +1,6 @@
 -- The trees of the conditions that the parser makes.
-use Rattle.std.specs.Prelude.{◌≡◌, ℕ, List, [], ◌∷◌, ◌++◌}
-use Rattle.std.proofs.Common.{refl, ap, ◌∙◌}
+use Rattle.std.specs.Prelude.{◌≡◌, ℕ, ◌+◌, List, [], ◌∷◌, ◌++◌}
+use Rattle.std.proofs.Common.{refl, add-one, ap, ◌∙◌}
 use Rattle.sql_front.specs.declared.tree.Cond.{Cond}
 use Rattle.sql_front.specs.declared.tree.Cond.TheBlock.{Row_of-Predicate, end_of-Predicate, more_of-Predicate, Row_of-Conj, end_of-Conj, more_of-Conj, items-the_row-Predicate, items-the_row-Conj, hidden-the_row-Predicate-1, hidden-the_row-Conj-0, items_hidden-the_row-Predicate-1, items_hidden-the_row-Conj-0}
 use Rattle.sql_front.specs.declared.tree.Cond.TheVariants as cond
@@ -13,9 +13,13 @@ use Rattle.sql_front.specs.declared.words.Comparison.{Comparison}
 use Rattle.sql_front.specs.Tree.{ConjTree, CondTree, negation, group, compare, one_unit, and_unit, one_conj, or_conj}
 use Rattle.sql_front.specs.View.{side_tree, predicate_tree, conj_tree, units_tree, cond_tree, conjs_tree, more_units, more_conjs}
 
-pub negation_tree : (u : Predicate) → predicate_tree (predicate.Not u) ≡ negation (predicate_tree u)
+pub negation_tree : (u : Predicate) → predicate_tree (predicate.Not 1 u) ≡ negation (predicate_tree u)
 unfolding predicate_tree Rattle.sql_front.specs.declared.tree.Cond.TheBlock.hidden-the_row-Predicate-2 denote.Hole.Carrier.hidden
 negation_tree u = refl
+
+pub negation_more : (n : ℕ) (u : Predicate) → predicate_tree (predicate.Not (n + 1) u) ≡ negation (predicate_tree (predicate.Not n u))
+unfolding predicate_tree Rattle.sql_front.specs.declared.tree.Cond.TheBlock.hidden-the_row-Predicate-2 denote.Hole.Carrier.hidden
+negation_more n u = rw add-one refl
 
 pub group_tree : (c : Cond) → predicate_tree (predicate.Group c) ≡ group (cond_tree c)
 unfolding predicate_tree Rattle.sql_front.specs.declared.tree.Cond.TheBlock.hidden-the_row-Cond-3 denote.Hole.Carrier.hidden

@@ -1,6 +1,6 @@
 -- The grammar's trees of the values that the parser makes: lists are nested to the left, and what a query leaves out wraps
 -- nothing.
-use Rattle.std.specs.Prelude.{ℕ, Bool, true, false, List, [], ◌∷◌, Option, Some, None}
+use Rattle.std.specs.Prelude.{ℕ, zero, suc, Bool, true, false, List, [], ◌∷◌, Option, Some, None}
 use Rattle.sql_front.specs.Seen.{letters_of}
 use Rattle.sql_front.specs.Tree as tree
 use Rattle.sql_front.specs.declared.tree.NameAt as code_name
@@ -51,9 +51,14 @@ side_tree (side.Text bytes) = tree.quoted bytes
 
 -- ---- conditions
 
+-- what so many NOTs stand before
+abbrev pub negations : ℕ → tree.UnitTree → tree.UnitTree
+negations zero u = u
+negations (suc n) u = tree.negation (negations n u)
+
 unfoldable mutual
   pub predicate_tree : Predicate → tree.UnitTree
-  predicate_tree (Not' s (more_of-Predicate u end_of-Predicate)) = tree.negation (predicate_tree u)
+  predicate_tree (Not' n s (more_of-Predicate u end_of-Predicate)) = negations n (predicate_tree u)
   predicate_tree (Group' s (more_of-Cond c end_of-Cond)) = tree.group (cond_tree c)
   predicate_tree (Compare l op at r) = tree.compare (side_tree l) op at (side_tree r)
 

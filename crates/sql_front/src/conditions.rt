@@ -10,15 +10,21 @@ ghost use Rattle.sql_front.specs.View.{number_tree, side_tree, predicate_tree, c
 
 use crate::columns::column;
 use crate::input::{Input, is_wide};
+use crate::lists::list_behind;
 use crate::tree::{Cond, Conj, NameAt, NumberAt, Predicate, Side};
 use crate::words::Comparison;
 use crate::{ParseFault, make};
 use sql_tokens::{Keyword, Token, What};
-use sqlite_items::Items;
 use std::alloc::Global;
 
 /// How many parentheses and NOTs may be open at once.
 const MOST_OPEN: u8 = 64;
+
+/// The fewest bytes that AND and a unit take, as `AND 1=1 `.
+const LEAST_UNIT: usize = 8;
+
+/// The fewest bytes that OR and a conjunction take, as `OR 1=1 `.
+const LEAST_CONJ: usize = 7;
 
 /// A side of a comparison.
 fn side(alloc: Global, input: &mut Input) -> Result<Side, ParseFault>
@@ -174,7 +180,7 @@ fn conj(alloc: Global, input: &mut Input, depth: u8) -> Result<Conj, ParseFault>
     ensures shorter { OnOk result (length input.new.rest < length input.old.rest) }
 {
     let first = predicate(alloc, input, depth)?;
-    let mut more = Items::new(alloc);
+    let mut more = list_behind(alloc, &*input, What::Word(Keyword::And), LEAST_UNIT)?;
     'ands: while input.peek().what == What::Word(Keyword::And) {
         input.advance();
         let next = predicate(alloc, input, depth)?;
@@ -191,7 +197,7 @@ pub(crate) fn cond(alloc: Global, input: &mut Input, depth: u8) -> Result<Cond, 
     ensures shorter { OnOk result (length input.new.rest < length input.old.rest) }
 {
     let first = conj(alloc, input, depth)?;
-    let mut more = Items::new(alloc);
+    let mut more = list_behind(alloc, &*input, What::Word(Keyword::Or), LEAST_CONJ)?;
     'ors: while input.peek().what == What::Word(Keyword::Or) {
         input.advance();
         let next = conj(alloc, input, depth)?;

@@ -1,4 +1,4 @@
-ghost use Rattle.std.specs.Prelude.{◌≡◌, ◌≤◌, ◌<◌, ◌-◌, ◌^◌, ℕ, ◌∷◌, [], length, Option, Some, IfOk, false, true};
+ghost use Rattle.std.specs.Prelude.{◌≡◌, ◌≤◌, ◌<◌, ◌+◌, ◌-◌, ◌^◌, ℕ, ◌∷◌, [], length, Option, Some, IfOk, false, true};
 ghost use Rattle.sql_tokens.specs.Tokens.{is_last, tokens_of};
 ghost use Rattle.sql_tokens.specs.declared.token.What.TheVariants as what;
 ghost use Rattle.sql_tokens.specs.Text.{text_content};
@@ -60,6 +60,13 @@ impl<'t> Input<'t> {
     {
         self.lexer.advance();
         self.first = self.lexer.peek();
+    }
+
+    /// How many bytes of the text stand from the first token on.
+    pub(crate) fn bytes_left(&self) -> usize
+        ensures { result ≡ length self.now.text + 1 - self.now.first.at }
+    {
+        (self.text.len() + 1).saturating_sub(self.first.at as usize)
     }
 
     /// Why the first token is refused, behind a `-` at this place if there is one.

@@ -8,11 +8,14 @@ ghost use Rattle.sql_front.specs.View.{name_tree, item_tree, selection_tree};
 use crate::ParseFault;
 use crate::columns::{column, whole_column};
 use crate::input::Input;
+use crate::lists::list_behind;
 use crate::tree::{Item, NameAt, Selection};
 use crate::words::Aggregate;
-use sql_tokens::{Keyword, What};
-use sqlite_items::Items;
+use sql_tokens::{Keyword, Token, What};
 use std::alloc::Global;
+
+/// The fewest bytes that a comma and an item take, as `,a`.
+const LEAST_ITEM: usize = 2;
 
 /// The `(` behind COUNT, SUM, MIN or MAX.
 fn open(input: &mut Input) -> Result<(), ParseFault>
@@ -20,11 +23,13 @@ fn open(input: &mut Input) -> Result<(), ParseFault>
     ensures fold { (f : Aggregate) (at : ℕ) (k : ItemK) → Leads (runs (folded f at k)) input.old result (λ _. runs (want_column (fold_k f at k))) input.new }
     ensures shorter { OnOk result (length input.new.rest < length input.old.rest) }
 {
-    if input.peek().what != What::Open {
-        return Err(input.refuse(None));
+    match input.peek().what {
+        What::Open => {
+            input.advance();
+            Ok(())
+        }
+        _ => Err(input.refuse(None)),
     }
-    input.advance();
-    Ok(())
 }
 
 /// The `)` at the end of an item.
@@ -32,11 +37,13 @@ fn close(input: &mut Input) -> Result<(), ParseFault>
     ensures led { (is : ItemList) → Leads (runs_on (follow_fold is)) input.old result (λ _. runs_on (follow_items is)) input.new }
     ensures shorter { OnOk result (length input.new.rest < length input.old.rest) }
 {
-    if input.peek().what != What::Close {
-        return Err(input.refuse(None));
+    match input.peek().what {
+        What::Close => {
+            input.advance();
+            Ok(())
+        }
+        _ => Err(input.refuse(None)),
     }
-    input.advance();
-    Ok(())
 }
 
 /// The `*` in the parentheses behind COUNT.
@@ -44,12 +51,14 @@ fn star(input: &mut Input) -> Result<u32, ParseFault>
     ensures led { (k : ItemK) → Leads (runs (count_open k)) input.old result (λ at. runs_on (follow_fold (add_item k (count_item at)))) input.new }
     ensures shorter { OnOk result (length input.new.rest < length input.old.rest) }
 {
-    let token = input.peek();
-    if token.what != What::Star {
-        return Err(input.refuse(None));
+    let Token { what, at } = input.peek();
+    match what {
+        What::Star => {
+            input.advance();
+            Ok(at)
+        }
+        _ => Err(input.refuse(None)),
     }
-    input.advance();
-    Ok(token.at)
 }
 
 /// COUNT of all rows, whose word was read.
@@ -130,7 +139,7 @@ fn listed(alloc: Global, input: &mut Input) -> Result<Selection, ParseFault>
     ensures led { (s : Select) → Leads (runs_on (begin_listed (first_item_k s))) input.old result (λ items. runs_on (begin_from (selection_tree s items))) input.new }
 {
     let first = item(input)?;
-    let mut more = Items::new(alloc);
+    let mut more = list_behind(alloc, &*input, What::Comma, LEAST_ITEM)?;
     while input.peek().what == What::Comma {
         more.push(next_item(input)?)?;
     }

@@ -8,6 +8,7 @@ mod conditions;
 mod fault;
 mod input;
 mod items;
+mod lists;
 mod make;
 mod numbers;
 mod options;

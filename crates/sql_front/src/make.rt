@@ -1,4 +1,5 @@
 ghost use Rattle.std.specs.Prelude.{◌≡◌, IfOk};
+ghost use Rattle.sql_front.specs.declared.tree.Predicate.TheVariants as predicate;
 ghost use Rattle.sql_front.specs.Tree.{negation, group, compare, one_unit, one_conj};
 ghost use Rattle.sql_front.specs.View.{side_tree, predicate_tree, conj_tree, cond_tree, more_units, more_conjs};
 
@@ -7,12 +8,34 @@ use crate::words::Comparison;
 use sqlite_items::{Boxed, Items};
 use std::alloc::{AllocError, Global};
 
-/// What NOT stands before.
+/// One NOT, and what it stands before.
 #[tactic(auto, using(crate::proofs::Making::negation_tree))]
+fn one_negation(alloc: Global, inner: Predicate) -> Result<Predicate, AllocError>
+    ensures { IfOk result (λ p. predicate_tree p ≡ negation (predicate_tree inner)) }
+{
+    Ok(Predicate::Not(1, Boxed::new(alloc, inner)?))
+}
+
+/// One NOT more than so many.
+#[tactic(auto, using(crate::proofs::Making::negation_more))]
+fn next_negation(alloc: Global, many: u8, inner: Boxed<Predicate>) -> Result<Predicate, AllocError>
+    ensures { IfOk result (λ p. predicate_tree p ≡ negation (predicate_tree (predicate.Not many inner))) }
+{
+    if many < u8::MAX {
+        Ok(Predicate::Not(many + 1, inner))
+    } else {
+        one_negation(alloc, Predicate::Not(many, inner))
+    }
+}
+
+/// What NOT stands before. Of a run of NOTs only the first takes memory, as they are counted.
 pub(crate) fn negation(alloc: Global, inner: Predicate) -> Result<Predicate, AllocError>
     ensures { IfOk result (λ p. predicate_tree p ≡ negation (predicate_tree inner)) }
 {
-    Ok(Predicate::Not(Boxed::new(alloc, inner)?))
+    match inner {
+        Predicate::Not(many, inner) => next_negation(alloc, many, inner),
+        inner => one_negation(alloc, inner),
+    }
 }
 
 /// A condition in parentheses.

@@ -33,11 +33,12 @@ pub enum Side {
     Text(Bytes),
 }
 
-/// A part of a condition that AND and OR join. A comparison has the place of its operator.
+/// A part of a condition that AND and OR join. A run of NOTs is one value, with their number. A comparison has the place of its
+/// operator.
 #[cycle(tree)]
 #[derive(Debug, Drop)]
 pub enum Predicate {
-    Not(Boxed<Predicate>),
+    Not(u8, Boxed<Predicate>),
     Group(Boxed<Cond>),
     Compare(Side, Comparison, u32, Side),
 }

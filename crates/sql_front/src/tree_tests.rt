@@ -2,13 +2,13 @@ use crate::{
     Column, Comparison, Cond, Conj, Item, Join, Key, KeyOf, More, NameAt, ParseFault, Predicate,
     Query, QueryOption, Selection, Setting, Side, Table, parse,
 };
-use std::alloc::Global;
+use std::alloc::{AllocError, Global};
 use std::process::Abort;
 use std::test::Fail;
 
 /// The query that a short text is.
 fn query_of(rt: &impl Abort, alloc: Global, text: &str) -> Result<Query, Fail> {
-    assert!(rt; text.len() < 2000, "a short text");
+    assert!(rt; text.len() < 4000, "a short text");
     match parse(alloc, text) {
         Ok(query) => Ok(query),
         Err(fault) => {
@@ -59,6 +59,56 @@ fn parentheses_are_kept(rt: HostRuntime) -> Result<(), Fail> {
         is_one_and_group(&query.first.condition),
         "AND of one and a group"
     );
+    Ok(())
+}
+
+/// Whether three NOTs stand before a comparison.
+fn is_negated_thrice(condition: &Option<Cond>) -> bool {
+    match condition {
+        Some(Cond::Only(Conj::One(Predicate::Not(3, inner)))) => {
+            matches!(inner.get(), Predicate::Compare(_, _, _, _))
+        }
+        _ => false,
+    }
+}
+
+#[test]
+fn nots_are_counted(rt: HostRuntime) -> Result<(), Fail> {
+    let query = query_of(&rt, rt.alloc(), "SELECT * FROM a WHERE NOT NOT NOT a = b")?;
+    assert!(rt; is_negated_thrice(&query.first.condition), "three NOTs");
+    Ok(())
+}
+
+/// A select of 300 items, where AND joins 300 comparisons.
+fn long_text(alloc: Global) -> Result<String, AllocError> {
+    let items = ",x".repeat(alloc, 299)?;
+    let units = " AND x=1".repeat(alloc, 299)?;
+    format!(in alloc; "SELECT x{items} FROM a WHERE x=1{units}")
+}
+
+/// Whether a selection has 300 items.
+fn has_300_items(items: &Selection) -> bool {
+    match items {
+        Selection::Items(_, more) => more.len() == 299,
+        _ => false,
+    }
+}
+
+/// Whether AND joins 300 units.
+fn has_300_units(condition: &Option<Cond>) -> bool {
+    match condition {
+        Some(Cond::Only(Conj::Units(_, more))) => more.len() == 299,
+        _ => false,
+    }
+}
+
+// Their room isn't made at once.
+#[test]
+fn long_lists_are_read_wholly(rt: HostRuntime) -> Result<(), Fail> {
+    let text = long_text(rt.alloc())?;
+    let query = query_of(&rt, rt.alloc(), text.as_str())?;
+    assert!(rt; has_300_items(&query.first.items), "300 items");
+    assert!(rt; has_300_units(&query.first.condition), "300 comparisons");
     Ok(())
 }
 
