@@ -1,9 +1,9 @@
 -- What the grammar sees of a token: its place stands there only where a query's tree keeps it.
-use Rattle.std.specs.Prelude.{ℕ, ◌^◌, Bool, true, false, nat_lt, nat_le, List, take, Option, Some, None}
+use Rattle.std.specs.Prelude.{ℕ, ◌^◌, Bool, true, false, nat_lt, nat_le, List, Option, Some, None}
 use Rattle.sql_tokens.specs.Text.{text_content}
+pub use Rattle.sql_tokens.specs.Words.{letters_of}
 use Rattle.sql_tokens.specs.declared.token.Keyword.{Keyword}
 use Rattle.sql_tokens.specs.declared.token.Keyword.TheVariants as kw
-use Rattle.sql_tokens.specs.declared.token.Name as declared
 use Rattle.sql_tokens.specs.declared.token.Token.{Token}
 use Rattle.sql_tokens.specs.declared.token.What.{What}
 use Rattle.sql_tokens.specs.declared.token.What.TheVariants as w
@@ -27,10 +27,6 @@ pub data Seen : Type 0 where
   Star : ℕ → Seen
   Minus : ℕ → Seen
   Comma Dot Open Close Semicolon Bad End : Seen
-
--- the letters of a name
-abbrev pub letters_of : declared.Name → List ℕ
-letters_of name = take name.len name.bytes
 
 abbrev pub seen_word : Keyword → ℕ → Seen
 seen_word kw.Select at = Select at

@@ -1,5 +1,5 @@
 -- Names, reserved words and numbers, by their bytes.
-use Rattle.std.specs.Prelude.{ℕ, ◌+◌, ◌-◌, ◌*◌, ◌^◌, min, Bool, ◌||◌, ◌==◌, if◌then◌else◌, nat_le, List, [], ◌∷◌, ◌++◌, length, map, fold, replicate, codes, Option, Some, None}
+use Rattle.std.specs.Prelude.{ℕ, ◌+◌, ◌-◌, ◌*◌, ◌^◌, min, Bool, ◌||◌, ◌==◌, if◌then◌else◌, nat_le, List, [], ◌∷◌, ◌++◌, length, map, fold, replicate, take, codes, Option, Some, None}
 use Rattle.std.specs.Char.{is_ascii_alphabetic, is_ascii_alphanumeric, to_ascii_lowercase}
 use Rattle.std.specs.Str.{str_eq_ignore_ascii_case}
 use Rattle.sql_tokens.specs.declared.token.Keyword.{Keyword}
@@ -40,6 +40,10 @@ keyword_of letters = keyword_in reserved_words letters
 -- the name of at most 16 letters: small ones, and zeros up to 16 bytes
 abbrev pub name_of : List ℕ → Name
 name_of letters = record { len = length letters; bytes = map to_ascii_lowercase letters ++ replicate (16 - length letters) 0 }
+
+-- the letters of a name
+abbrev pub letters_of : Name → List ℕ
+letters_of name = take name.len name.bytes
 
 -- a reserved word, a name, or what is too long for a name
 abbrev pub word_or : Option Keyword → List ℕ → What

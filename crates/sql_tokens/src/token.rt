@@ -31,6 +31,21 @@ pub struct Name {
     pub bytes: [u8; 16],
 }
 
+impl Name {
+    ghost use Rattle.std.specs.Prelude.{◌≡◌};
+    ghost use Rattle.sql_tokens.specs.Words.{letters_of};
+
+    /// Its letters, without the zeros behind them.
+    pub fn letters(&self) -> &[u8]
+        ensures { result.now ≡ letters_of self.now }
+    {
+        let (letters, _) = self
+            .bytes
+            .split_at((self.len as usize).min(self.bytes.len()));
+        letters
+    }
+}
+
 /// What a token is.
 #[derive(Clone, Copy, Debug, PartialEq, Eq)]
 pub enum What {
