@@ -1,10 +1,9 @@
 -- Runs over FROM and its tables, a token at a time.
 use Rattle.std.specs.Prelude.{◌≡◌, ℕ, ◌+◌, ◌<◌, true, List, [], ◌∷◌, ◌++◌, Option, Some, None}
-use Rattle.std.proofs.Common.{refl, ap, sym, ◌∙◌}
+use Rattle.std.proofs.Common.{refl, ◌∙◌}
 use Rattle.std.proofs.lemmas.Bool.{lt-ltb}
 use Rattle.sql_tokens.specs.declared.token.Keyword.TheVariants as kw
 use Rattle.sql_tokens.specs.declared.token.Name.{Name}
-use Rattle.sql_tokens.specs.declared.token.What.{What}
 use Rattle.sql_tokens.specs.declared.token.What.TheVariants as what
 use Rattle.sql_front.specs.declared.tables.Pair.{Pair}
 use Rattle.sql_front.specs.declared.tables.Pair.TheVariants as pair
@@ -15,39 +14,28 @@ use Rattle.sql_front.specs.declared.tree.Table as declared
 use Rattle.sql_front.specs.declared.tree.Table.TheVariants as code
 use Rattle.sql_front.specs.declared.words.Unreserved.{Unreserved}
 use Rattle.sql_front.specs.declared.words.Unreserved.TheVariants as u
-use Rattle.sql_front.specs.Machine.{State, TableK, before_k, join_k, on_k, want_table, want_cond, after_table, left_word, union_word, join_word, follow_table, more_from}
-use Rattle.sql_front.specs.Machine.{begin_on, begin_left, begin_more, begin_join, begin_select, tables_behind, step, limits, free_limit, running}
-use Rattle.sql_front.specs.Reads.{Reading, runs, runs_on, behind_names, pair_of, word_seen}
+use Rattle.sql_front.specs.Machine.{TableK, before_k, join_k, on_k, want_table, want_cond, want_select, after_table, left_word, union_word, join_word, follow_table, more_from}
+use Rattle.sql_front.specs.Machine.{begin_on, begin_left, begin_union, begin_more, begin_join, begin_select, tables_behind, step}
+use Rattle.sql_front.specs.Reads.{Reading, refused_at, runs, runs_on, begin_where, behind_names, pair_of, word_seen}
 use Rattle.sql_front.specs.Seen.{Seen, seen, seen_as, letters_of}
 use Rattle.sql_front.specs.Seen as w
 use Rattle.sql_front.specs.Spell.{fits_table, tables_from}
-use Rattle.sql_front.specs.Tree.{NameAt, Table, bare, renamed, renamed_as, Join, semi, anti, Before, From, table, no_where, no_group}
+use Rattle.sql_front.specs.Tree.{NameAt, Table, bare, renamed, renamed_as, Join, semi, anti, Before, From, table, no_where, Group, no_group, union_all}
 use Rattle.sql_front.specs.View.{name_tree, table_tree, more_tables, next_table}
 use Rattle.sql_front.specs.Words.{unreserved}
-
--- the first token was passed
-passed : (st next : State) (old new : Reading) (t : What) → old.first.what ≡ t → old.rest ≡ new.first ∷ new.rest → new.text ≡ old.text
-    → limits st (seen_as old.text t old.first.at) ≡ true → step st (seen_as old.text t old.first.at) ≡ Some next → runs st old ≡ runs next new
-passed st next old new t is rest text fits takes =
-    let over : runs st old ≡ running old.text next (new.first ∷ new.rest) = rw (is, rest, fits, takes) refl in
-    over ∙ ap (λ (x : List ℕ). running x next (new.first ∷ new.rest)) (sym text)
-
-runs_passed : (more : Seen → Option State) (next : State) (old new : Reading) (t : What) → old.first.what ≡ t → old.rest ≡ new.first ∷ new.rest → new.text ≡ old.text
-    → free_limit (seen_as old.text t old.first.at) ≡ true → more (seen_as old.text t old.first.at) ≡ Some next → runs_on more old ≡ runs next new
-runs_passed more next old new t is rest text fits takes =
-    let over : runs_on more old ≡ running old.text next (new.first ∷ new.rest) = rw (is, rest, fits, takes) refl in
-    over ∙ ap (λ (x : List ℕ). running x next (new.first ∷ new.rest)) (sym text)
+use Rattle.sql_words.specs.Machine.{Stopped}
+use Rattle.sql_front.proofs.Passing.{passes, passes_on, take_word, at_word, reads_word, passes_word, refuses_word}
 
 pub named_again : (n : NameAt) (k : TableK) (old new : Reading) (x : Name) → old.first.what ≡ what.Name x → old.rest ≡ new.first ∷ new.rest → new.text ≡ old.text
     → runs (after_table (bare n) k) old ≡ runs_on (follow_table (renamed n (record { letters = letters_of x; at = old.first.at })) k) new
-named_again n k old new x is rest text = passed (after_table (bare n) k) (after_table (renamed n (record { letters = letters_of x; at = old.first.at })) k) old new (what.Name x) is rest text refl refl
+named_again n k old new x is rest text = passes (after_table (bare n) k) (after_table (renamed n (record { letters = letters_of x; at = old.first.at })) k) (what.Name x) old new is rest text refl refl
 
 pub table_named : (k : TableK) (tables : ℕ) (old new : Reading) (x : Name) → old.first.what ≡ what.Name x → old.rest ≡ new.first ∷ new.rest → new.text ≡ old.text
     → tables_behind k ≡ tables → tables < 4
     → runs (want_table k) old ≡ runs (after_table (bare (record { letters = letters_of x; at = old.first.at })) k) new
 table_named k tables old new x is rest text behind fits =
     let few : fits_table (tables_behind k) ≡ true = rw behind (lt-ltb tables 4 fits) in
-    passed (want_table k) (after_table (bare (record { letters = letters_of x; at = old.first.at })) k) old new (what.Name x) is rest text few refl
+    passes (want_table k) (after_table (bare (record { letters = letters_of x; at = old.first.at })) k) (what.Name x) old new is rest text few refl
 
 -- ---- ON
 
@@ -65,25 +53,68 @@ wants_on t f j r = rw on_only refl
 
 pub on_passed : (t : Table) (f : From) (j : Join) (old new : Reading) → old.first.what ≡ what.Word kw.On → old.rest ≡ new.first ∷ new.rest → new.text ≡ old.text
     → runs_on (behind_names t (join_k f j)) old ≡ runs (want_cond (on_k f j t)) new
-on_passed t f j old new is rest text = wants_on t f j old ∙ runs_passed (begin_on t f j) (want_cond (on_k f j t)) old new (what.Word kw.On) is rest text refl refl
+on_passed t f j old new is rest text = wants_on t f j old ∙ passes_on (begin_on t f j) (want_cond (on_k f j t)) (what.Word kw.On) old new is rest text refl refl
 
 -- ---- words that are names elsewhere
 
-word_passed : (st next : State) (old new : Reading) (word : Unreserved) (t : What) → old.first.what ≡ t → word_seen (seen_as old.text t old.first.at) ≡ Some word
-    → old.rest ≡ new.first ∷ new.rest → new.text ≡ old.text
-    → ((x : List ℕ) → unreserved x ≡ Some word → (limits st (w.Name x old.first.at) ≡ true) × (step st (w.Name x old.first.at) ≡ Some next)) → runs st old ≡ runs next new
-word_passed st next old new word (what.Name x) is named rest text takes = passed st next old new (what.Name x) is rest text (takes (letters_of x) named).0 (takes (letters_of x) named).1
-word_passed st next old new word (what.Word kw.Select) is named rest text takes = cc
-word_passed st next old new word (what.Word _) is named rest text takes = cc
-word_passed st next old new word _ is named rest text takes = cc
+left_taken : (f : From) (left : ℕ) (t : Seen) → step (left_word f left) t ≡ take_word (begin_join f left) t
+left_taken f left (w.Name x at) = refl
+left_taken f left t = refl
+
+left_reads : (f : From) (left : ℕ) (r : Reading) → runs (left_word f left) r ≡ at_word (begin_join f left r.first.at) r
+left_reads f left r = rw (left_taken f left (seen r.text r.first)) (reads_word (begin_join f left) r refl)
 
 pub semi_passed : (f : From) (left : ℕ) (old new : Reading) → word_seen (seen old.text old.first) ≡ Some u.Semi → old.rest ≡ new.first ∷ new.rest → new.text ≡ old.text
     → runs (left_word f left) old ≡ runs (join_word f (semi left old.first.at)) new
-semi_passed f left old new is rest text = word_passed (left_word f left) (join_word f (semi left old.first.at)) old new u.Semi old.first.what refl is rest text (λ x word. (refl, rw word refl))
+semi_passed f left old new is rest text = left_reads f left old ∙ passes_word (begin_join f left old.first.at) (Some u.Semi) (join_word f (semi left old.first.at)) old new is rest text refl
 
 pub anti_passed : (f : From) (left : ℕ) (old new : Reading) → word_seen (seen old.text old.first) ≡ Some u.Anti → old.rest ≡ new.first ∷ new.rest → new.text ≡ old.text
     → runs (left_word f left) old ≡ runs (join_word f (anti left old.first.at)) new
-anti_passed f left old new is rest text = word_passed (left_word f left) (join_word f (anti left old.first.at)) old new u.Anti old.first.what refl is rest text (λ x word. (refl, rw word refl))
+anti_passed f left old new is rest text = left_reads f left old ∙ passes_word (begin_join f left old.first.at) (Some u.Anti) (join_word f (anti left old.first.at)) old new is rest text refl
+
+no_join : (f : From) (left at : ℕ) (word : Option Unreserved) → (word ≡ Some u.Semi → ⊥) → (word ≡ Some u.Anti → ⊥) → begin_join f left at word ≡ None
+no_join f left at (Some u.Semi) other another = absurd (other refl)
+no_join f left at (Some u.Anti) other another = absurd (another refl)
+no_join f left at word other another = refl
+
+pub left_refused : (f : From) (left : ℕ) (r : Reading) → (word_seen (seen r.text r.first) ≡ Some u.Semi → ⊥) → (word_seen (seen r.text r.first) ≡ Some u.Anti → ⊥)
+    → runs (left_word f left) r ≡ Stopped (refused_at None r)
+left_refused f left r other another = left_reads f left r ∙ refuses_word (begin_join f left r.first.at) (word_seen (seen r.text r.first)) r refl (no_join f left r.first.at (word_seen (seen r.text r.first)) other another)
+
+union_taken : (g : Group) (union : ℕ) (t : Seen) → step (union_word g union) t ≡ take_word (begin_select g union) t
+union_taken g union (w.Name x at) = refl
+union_taken g union t = refl
+
+union_reads : (g : Group) (union : ℕ) (r : Reading) → runs (union_word g union) r ≡ at_word (begin_select g union r.first.at) r
+union_reads g union r = rw (union_taken g union (seen r.text r.first)) (reads_word (begin_select g union) r refl)
+
+pub all_passed : (g : Group) (union : ℕ) (old new : Reading) → word_seen (seen old.text old.first) ≡ Some u.All → old.rest ≡ new.first ∷ new.rest → new.text ≡ old.text
+    → runs (union_word g union) old ≡ runs (want_select (union_all g union old.first.at)) new
+all_passed g union old new is rest text = union_reads g union old ∙ passes_word (begin_select g union old.first.at) (Some u.All) (want_select (union_all g union old.first.at)) old new is rest text refl
+
+no_select : (g : Group) (union at : ℕ) (word : Option Unreserved) → (word ≡ Some u.All → ⊥) → begin_select g union at word ≡ None
+no_select g union at (Some u.All) other = absurd (other refl)
+no_select g union at word other = refl
+
+pub union_refused : (g : Group) (union : ℕ) (r : Reading) → (word_seen (seen r.text r.first) ≡ Some u.All → ⊥) → runs (union_word g union) r ≡ Stopped (refused_at None r)
+union_refused g union r other = union_reads g union r ∙ refuses_word (begin_select g union r.first.at) (word_seen (seen r.text r.first)) r refl (no_select g union r.first.at (word_seen (seen r.text r.first)) other)
+
+-- ---- words behind a table
+
+pub left_named_here : (f : From) (x : Name) (old new : Reading) → old.first.what ≡ what.Name x → unreserved (letters_of x) ≡ Some u.Left → old.rest ≡ new.first ∷ new.rest → new.text ≡ old.text
+    → runs_on (more_from f) old ≡ runs (left_word f old.first.at) new
+left_named_here f x old new is word rest text = passes_on (more_from f) (left_word f old.first.at) (what.Name x) old new is rest text refl (rw word refl)
+
+pub union_named_here : (f : From) (x : Name) (old new : Reading) → old.first.what ≡ what.Name x → unreserved (letters_of x) ≡ Some u.Union → old.rest ≡ new.first ∷ new.rest → new.text ≡ old.text
+    → runs_on (more_from f) old ≡ runs (union_word (no_group (no_where f)) old.first.at) new
+union_named_here f x old new is word rest text = passes_on (more_from f) (union_word (no_group (no_where f)) old.first.at) (what.Name x) old new is rest text refl (rw word refl)
+
+no_left : (f : From) (at : ℕ) (word : Option Unreserved) → (word ≡ Some u.Left → ⊥) → begin_left f at word ≡ begin_union (no_group (no_where f)) at word
+no_left f at (Some u.Left) other = absurd (other refl)
+no_left f at word other = refl
+
+pub no_word_here : (f : From) (x : Name) (r : Reading) → r.first.what ≡ what.Name x → (unreserved (letters_of x) ≡ Some u.Left → ⊥) → runs_on (more_from f) r ≡ runs_on (begin_where f) r
+no_word_here f x r is other = rw (is, no_left f r.first.at (unreserved (letters_of x)) other) refl
 
 -- ---- a second name that may be a word
 

@@ -6,13 +6,18 @@ use Rattle.sql_front.specs.declared.tree.Cond.{Cond}
 use Rattle.sql_front.specs.declared.tree.Item.{Item}
 use Rattle.sql_front.specs.declared.tree.Selection.{Selection}
 use Rattle.sql_front.specs.declared.tree.Selection.TheVariants as selection
-use Rattle.sql_front.specs.Machine.{GroupK, first_group_k, next_group_k, group_k, want_column, add_column, follow_columns, more_group}
-use Rattle.sql_front.specs.Reads.{Reading, runs, runs_on}
-use Rattle.sql_front.specs.Seen.{seen_as}
+use Rattle.sql_front.specs.declared.words.Unreserved.{Unreserved}
+use Rattle.sql_front.specs.declared.words.Unreserved.TheVariants as u
+use Rattle.sql_front.specs.Machine.{GroupK, first_group_k, next_group_k, group_k, want_column, union_word, add_column, follow_columns, more_group, begin_union, free_limit}
+use Rattle.sql_front.specs.Reads.{Reading, runs, runs_on, begin_order, word_seen}
+use Rattle.sql_front.specs.Seen.{Seen, seen, seen_as}
+use Rattle.sql_front.specs.Seen as w
 use Rattle.sql_front.specs.Spell.{tables_start, tables_select, tables_list, tables_items, tables_from, tables_where, tables_columns, tables_group}
 use Rattle.sql_front.specs.Tree.{Start, ItemList, first_item, next_item, From, Where, Columns, first_column, next_column, Group, group_by}
 use Rattle.sql_front.specs.View.{column_tree, item_tree, more_items, selection_tree, head_tree, where_tree, more_columns, group_tree}
-use Rattle.sql_front.proofs.ItemLemmas.{passes, same_more}
+use Rattle.sql_front.specs.Words.{unreserved}
+use Rattle.sql_front.proofs.ItemLemmas.{same_more}
+use Rattle.sql_front.proofs.Passing.{passes_on}
 use Rattle.sql_tokens.specs.declared.token.Keyword.TheVariants as kw
 use Rattle.sql_tokens.specs.declared.token.Token.{Token}
 use Rattle.sql_tokens.specs.declared.token.What.{What}
@@ -55,9 +60,38 @@ pub past_comma : (h : Where) (columns all : List Column) (c : Column) (old new :
     → token ≡ old.first → token.what ≡ kind.Comma → old.rest ≡ new.first ∷ new.rest → new.text ≡ old.text
     → runs_on (follow_columns (add_column (waits h columns) (column_tree c))) old ≡ runs (want_column (group_k (waits h all))) new
 past_comma h columns all c old new token pushed here comma rest same =
-    passes (follow_columns (add_column (waits h columns) (column_tree c))) (want_column (group_k (next_group_k (add_column (waits h columns) (column_tree c))))) old new token kind.Comma
-    refl refl here comma rest same
+    passes_on (follow_columns (add_column (waits h columns) (column_tree c))) (want_column (group_k (next_group_k (add_column (waits h columns) (column_tree c))))) kind.Comma old new
+    (ap (λ (t : Token). t.what) (sym here) ∙ comma) rest same refl refl
     ∙ ap (λ (k : GroupK). runs (want_column (group_k k)) new) (waited h columns c ∙ ap (waits h) (sym pushed))
+
+-- ---- UNION
+
+no_union : (g : Group) (at : ℕ) (word : Option Unreserved) → (word ≡ Some u.Union → ⊥) → begin_union g at word ≡ None
+no_union g at (Some u.Union) other = absurd (other refl)
+no_union g at word other = refl
+
+not_union : (g : Group) (t : Seen) → (word_seen t ≡ Some u.Union → ⊥) → more_group g t ≡ begin_order g t
+not_union g (w.Word kw.Order) other = refl
+not_union g (w.Name x at) other = no_union g at (unreserved x) other
+not_union g t other = refl
+
+-- behind the last select
+pub last_select : (g : Group) (r : Reading) → (word_seen (seen r.text r.first) ≡ Some u.Union → ⊥) → runs_on (more_group g) r ≡ runs_on (begin_order g) r
+last_select g r other = same_more (more_group g) (begin_order g) r (not_union g (seen r.text r.first) other)
+
+takes_union : (g : Group) (text : List ℕ) (what : What) (at : ℕ) → word_seen (seen_as text what at) ≡ Some u.Union
+    → (free_limit (seen_as text what at) ≡ true) × (more_group g (seen_as text what at) ≡ Some (union_word g at))
+takes_union g text (kind.Name x) at is = (refl, rw is refl)
+takes_union g text (kind.Word kw.Select) at is = cc
+takes_union g text (kind.Word _) at is = cc
+takes_union g text _ at is = cc
+
+-- past UNION
+pub union_passed : (g : Group) (old new : Reading) → word_seen (seen old.text old.first) ≡ Some u.Union → old.rest ≡ new.first ∷ new.rest → new.text ≡ old.text
+    → runs_on (more_group g) old ≡ runs (union_word g old.first.at) new
+union_passed g old new is rest text =
+    let taken = takes_union g old.text old.first.what old.first.at is in
+    passes_on (more_group g) (union_word g old.first.at) old.first.what old new refl rest text taken.0 taken.1
 
 -- ---- how many tables stand there
 

@@ -1,6 +1,6 @@
 -- What the functions that read ORDER BY, LIMIT and OPTION say, where they call those of numbers and words.
-use Rattle.std.specs.Prelude.{◌≡◌, ℕ, Bool, List, [], ◌∷◌, ◌++◌, Result}
-use Rattle.std.proofs.Common.{refl, ap, arith}
+use Rattle.std.specs.Prelude.{◌≡◌, ℕ, Bool, List, [], ◌∷◌, ◌++◌, Option, Some, None, Result}
+use Rattle.std.proofs.Common.{refl, ap, arith, ◌∙◌}
 use Rattle.std.proofs.lemmas.Bool.Decides.{nat_tests}
 use Rattle.sql_tokens.specs.declared.token.Keyword.{Keyword}
 use Rattle.sql_tokens.specs.declared.token.Keyword.TheVariants as keyword
@@ -10,16 +10,20 @@ use Rattle.sql_front.specs.declared.fault.ParseFault.{ParseFault}
 use Rattle.sql_front.specs.declared.tree.Key as declared_key
 use Rattle.sql_front.specs.declared.tree.NumberAt as declared
 use Rattle.sql_front.specs.declared.tree.QueryOption as declared_option
+use Rattle.sql_front.specs.declared.words.Method.{Method}
 use Rattle.sql_front.specs.declared.words.Setting.{Setting}
-use Rattle.sql_front.specs.Machine.{State, OptK, next_opt_k, add_opt, sized_word, after_opts, limit_word, after_limit, KeyK, next_key_k, add_key, want_key, after_number, number_limit}
-use Rattle.sql_front.specs.Machine.{step, follow_opts, follow_key, follow_keys, more_order, more_limited}
-use Rattle.sql_front.specs.Reads.{Reading, Leads, runs, runs_on}
+use Rattle.sql_front.specs.declared.words.Unreserved.{Unreserved}
+use Rattle.sql_front.specs.Machine.{State, OptK, next_opt_k, add_opt, sized_word, used_word, after_opts, limit_word, after_limit, KeyK, next_key_k, add_key, want_key, after_number, number_limit}
+use Rattle.sql_front.specs.Machine.{step, method_of, use_method, follow_opts, follow_key, follow_keys, more_order, more_limited}
+use Rattle.sql_front.specs.Reads.{Reading, Leads, refused_at, runs, runs_on, word_seen}
 use Rattle.sql_front.specs.Seen.{Seen, seen, seen_as, seen_word}
 use Rattle.sql_front.specs.Seen as w
 use Rattle.sql_front.specs.Spell.{between, fits_setting, fits_limit}
 use Rattle.sql_front.specs.Tail.{take_number, at_number, key_behind, option_behind}
-use Rattle.sql_front.specs.Tree.{NumberAt, Group, by_number, Keys, first_key, next_key, Order, order_by, Limited, limit, sized, Options, first_option, next_option, options}
+use Rattle.sql_front.specs.Tree.{NumberAt, Group, by_number, Keys, first_key, next_key, Order, order_by, Limited, limit, sized, used, Options, first_option, next_option, options}
 use Rattle.sql_front.specs.View.{number_tree, key_tree, more_keys, order_tree, opt_tree, more_options, options_tree}
+use Rattle.sql_front.proofs.Passing.{take_word, at_word, reads_word, passes_word, refuses_word}
+use Rattle.sql_words.specs.Machine.{Stopped}
 
 -- ---- numbers
 
@@ -63,6 +67,30 @@ pub key_leads : (k : KeyK) (n : ℕ) (old new : Reading) (result : Result declar
     → ((next : NumberAt → State) → Leads (at_number (between 1 65535) next) old result (λ n. runs (next (number_tree n))) new)
     → Leads (runs (want_key k)) old result (λ n. runs_on (follow_key k (by_number (number_tree n)))) new
 key_leads k n old new result is leads = rw (at_key k n old is) (leads (λ n. after_number n k))
+
+-- ---- methods behind USE
+
+takes_method : OptK → ℕ → ℕ → Option Unreserved → Option State
+takes_method k at place word = use_method k at place (method_of word)
+
+use_taken : (at : ℕ) (k : OptK) (t : Seen) → step (used_word at k) t ≡ take_word (takes_method k at) t
+unfolding takes_method
+use_taken at k (w.Name x place) = refl
+use_taken at k t = refl
+
+use_reads : (at : ℕ) (k : OptK) (r : Reading) → runs (used_word at k) r ≡ at_word (takes_method k at r.first.at) r
+unfolding takes_method
+use_reads at k r = rw (use_taken at k (seen r.text r.first)) (reads_word (takes_method k at) r refl)
+
+pub use_passed : (at : ℕ) (k : OptK) (method : Method) (old new : Reading) → method_of (word_seen (seen old.text old.first)) ≡ Some method → old.rest ≡ new.first ∷ new.rest → new.text ≡ old.text
+    → runs (used_word at k) old ≡ runs_on (follow_opts (add_opt k (used at method old.first.at))) new
+unfolding takes_method
+use_passed at k method old new is rest text = use_reads at k old
+    ∙ passes_word (takes_method k at old.first.at) (word_seen (seen old.text old.first)) (after_opts (add_opt k (used at method old.first.at))) old new refl rest text (rw is refl)
+
+pub use_refused : (at : ℕ) (k : OptK) (r : Reading) → method_of (word_seen (seen r.text r.first)) ≡ None → runs (used_word at k) r ≡ Stopped (refused_at None r)
+unfolding takes_method
+use_refused at k r none = use_reads at k r ∙ refuses_word (takes_method k at r.first.at) (word_seen (seen r.text r.first)) r refl (rw none refl)
 
 -- ---- keys
 

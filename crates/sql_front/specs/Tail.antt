@@ -2,14 +2,12 @@
 use Rattle.std.specs.Prelude.{ℕ, Bool, if◌then◌else◌, List, [], ◌∷◌, Option, Some, None}
 use Rattle.sql_front.specs.declared.tree.Key.{Key}
 use Rattle.sql_front.specs.declared.tree.QueryOption.{QueryOption}
-use Rattle.sql_front.specs.declared.words.Unreserved.{Unreserved}
 use Rattle.sql_front.specs.Machine.{State, running, number_limit, KeyK, first_key_k, next_key_k, OptK, first_opt_k, next_opt_k}
 use Rattle.sql_front.specs.Reads.{Reading, refused_at}
 use Rattle.sql_front.specs.Seen.{Seen, seen}
 use Rattle.sql_front.specs.Seen as w
 use Rattle.sql_front.specs.Tree.{NumberAt, Group, first_key, Limited, first_option}
 use Rattle.sql_front.specs.View.{key_tree, more_keys, opt_tree, more_options}
-use Rattle.sql_front.specs.Words.{unreserved}
 use Rattle.sql_words.specs.Machine.{Outcome, Stopped, on_step}
 
 -- where nothing but a number may stand, and the state behind it
@@ -22,11 +20,6 @@ abbrev pub at_number : (ℕ → Bool) → (NumberAt → State) → Reading → O
 at_number fits next r =
     if number_limit fits (seen r.text r.first) then on_step (λ st. running r.text st r.rest) (refused_at None r) (take_number next (seen r.text r.first))
     else Stopped (refused_at None r)
-
--- the word that a name is where such a word may stand
-abbrev pub word_here : Seen → Option Unreserved
-word_here (w.Name x at) = unreserved x
-word_here _ = None
 
 -- what waits for a key behind these, and for an option
 abbrev pub key_behind : Group → List Key → KeyK

@@ -1,7 +1,7 @@
 ghost use Rattle.std.specs.Prelude.{◌≡◌, ◌<◌, ◌≤◌, length, OnOk};
-ghost use Rattle.sql_front.specs.Machine.{ColumnK, want_column, after_column, follow_column};
+ghost use Rattle.sql_front.specs.Machine.{ColumnK, want_column, after_column, after_dot, follow_column};
 ghost use Rattle.sql_front.specs.Reads.{Leads, runs, runs_on};
-ghost use Rattle.sql_front.specs.Tree.{plain};
+ghost use Rattle.sql_front.specs.Tree.{plain, dotted};
 ghost use Rattle.sql_front.specs.View.{column_tree, name_tree};
 
 use crate::ParseFault;
@@ -14,16 +14,26 @@ pub(crate) fn column(input: &mut Input, first: NameAt) -> Result<Column, ParseFa
     ensures led { (k : ColumnK) → Leads (runs (after_column (plain (name_tree first)) k)) input.old result (λ c. runs_on (follow_column k (column_tree c))) input.new }
     ensures no_longer { OnOk result (length input.new.rest ≤ length input.old.rest) }
 {
-    if input.peek().what != What::Dot {
-        return Ok(Column::Plain(first));
+    match input.peek().what {
+        What::Dot => {
+            input.advance();
+            let second = behind_dot(input, first)?;
+            Ok(Column::Dotted(first, second))
+        }
+        _ => Ok(Column::Plain(first)),
     }
-    input.advance();
+}
+
+/// The column's own name, behind the `.` that stands behind its table's.
+fn behind_dot(input: &mut Input, table: NameAt) -> Result<NameAt, ParseFault>
+    ensures led { (k : ColumnK) → Leads (runs (after_dot (name_tree table) k)) input.old result (λ n. runs_on (follow_column k (dotted (name_tree table) (name_tree n)))) input.new }
+    ensures shorter { OnOk result (length input.new.rest < length input.old.rest) }
+{
     let token = input.peek();
     match token.what {
         What::Name(name) => {
             input.advance();
-            let second = NameAt { name, at: token.at };
-            Ok(Column::Dotted(first, second))
+            Ok(NameAt { name, at: token.at })
         }
         _ => Err(input.refuse(None)),
     }

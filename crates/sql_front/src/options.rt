@@ -1,21 +1,24 @@
-ghost use Rattle.std.specs.Prelude.{◌≡◌, ◌≤◌, ℕ, List, OnOk, IfSome, false, length};
+ghost use Rattle.std.specs.Prelude.{◌≡◌, ◌≤◌, ℕ, OnOk, false, length};
 ghost use Rattle.sql_front.specs.Machine.{OptK, first_opt_k, want_opt, add_opt, follow_opts, option_word, sized_word, used_word, more_limited, more_optioned, method_of};
 ghost use Rattle.sql_front.specs.Reads.{Leads, runs, runs_on};
-ghost use Rattle.sql_front.specs.Seen.{seen_as};
 ghost use Rattle.sql_front.specs.Spell.{between, fits_setting};
-ghost use Rattle.sql_front.specs.Tail.{word_here, runs_past};
+ghost use Rattle.sql_front.specs.Tail.{runs_past};
 ghost use Rattle.sql_front.specs.Tree.{Limited};
 ghost use Rattle.sql_front.specs.View.{opt_tree, options_tree};
 ghost use Rattle.sql_tokens.specs.Tokens.{is_last};
 
 use crate::ParseFault;
 use crate::input::Input;
+use crate::lists::list_here;
 use crate::numbers::number;
 use crate::tree::QueryOption;
-use crate::words::{Method, Setting, Unreserved, word_of};
+use crate::words::{Method, Setting, Unreserved, word_ahead};
 use sql_tokens::{Keyword, What};
 use sqlite_items::Items;
 use std::alloc::Global;
+
+/// The fewest bytes of an option with its comma or `)`, as `SORT 2,`.
+const LEAST_OPTION: usize = 7;
 
 /// OPTION and its options, if it stands there.
 pub(crate) fn options_part(
@@ -24,30 +27,34 @@ pub(crate) fn options_part(
 ) -> Result<Items<QueryOption>, ParseFault>
     ensures led { (l : Limited) → Leads (runs_on (more_limited l)) input.old result (λ options. runs_on (more_optioned (options_tree l options))) input.new }
 {
-    if input.peek().what != What::Word(Keyword::Option) {
-        return Ok(Items::new(alloc));
+    match input.peek().what {
+        What::Word(Keyword::Option) => {
+            input.advance();
+            open(input)?;
+            options(alloc, input)
+        }
+        _ => Ok(Items::new(alloc)),
     }
-    input.advance();
-    open(input)?;
-    options(alloc, input)
 }
 
 /// The `(` behind OPTION.
 fn open(input: &mut Input) -> Result<(), ParseFault>
     ensures led { (l : Limited) → Leads (runs (option_word l)) input.old result (λ _. runs (want_opt (first_opt_k l))) input.new }
 {
-    if input.peek().what != What::Open {
-        return Err(input.refuse(None));
+    match input.peek().what {
+        What::Open => {
+            input.advance();
+            Ok(())
+        }
+        _ => Err(input.refuse(None)),
     }
-    input.advance();
-    Ok(())
 }
 
 /// All options, and the `)` behind them.
 fn options(alloc: Global, input: &mut Input) -> Result<Items<QueryOption>, ParseFault>
     ensures led { (l : Limited) → Leads (runs (want_opt (first_opt_k l))) input.old result (λ options. runs_on (more_optioned (options_tree l options))) input.new }
 {
-    let mut options = Items::new(alloc);
+    let mut options = list_here(alloc, input, LEAST_OPTION)?;
     'options: loop {
         options.push(option(input)?)?;
         match input.peek().what {
@@ -65,24 +72,12 @@ fn option(input: &mut Input) -> Result<QueryOption, ParseFault>
     ensures led { (k : OptK) → Leads (runs (want_opt k)) input.old result (λ o. runs_on (follow_opts (add_opt k (opt_tree o)))) input.new }
     ensures shorter { OnOk result (length input.new.rest ≤ length input.old.rest) }
 {
-    let token = input.peek();
-    match word_here(token.what) {
+    match word_ahead(input) {
         Some(Unreserved::Block) => sized(input, Setting::Block),
         Some(Unreserved::Parts) => sized(input, Setting::Parts),
         Some(Unreserved::Sort) => sized(input, Setting::Sort),
         Some(Unreserved::Use) => used(input),
         _ => Err(input.refuse(None)),
-    }
-}
-
-/// The word that a token is where such a word may stand.
-fn word_here(what: What) -> Option<Unreserved>
-    ensures word { (text : List ℕ) (at : ℕ) → result ≡ word_here (seen_as text what at) }
-    ensures name { IfSome result (λ _. is_last what ≡ false) }
-{
-    match what {
-        What::Name(name) => word_of(&name),
-        _ => None,
     }
 }
 
@@ -116,11 +111,11 @@ fn used(input: &mut Input) -> Result<QueryOption, ParseFault>
 {
     let at = input.peek().at;
     input.advance();
-    let token = input.peek();
-    match method_of(word_here(token.what)) {
+    let place = input.peek().at;
+    match method_of(word_ahead(input)) {
         Some(method) => {
             input.advance();
-            Ok(QueryOption::Use(at, method, token.at))
+            Ok(QueryOption::Use(at, method, place))
         }
         None => Err(input.refuse(None)),
     }

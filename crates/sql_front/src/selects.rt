@@ -1,8 +1,8 @@
 ghost use Rattle.std.specs.Prelude.{◌≡◌, ◌<◌, ◌≤◌, ℕ, IfOk};
-ghost use Rattle.sql_front.specs.Machine.{want_select, selected, want_column, want_cond, group_word, union_word, first_item_k, first_group_k, group_k, where_k, begin_item, more_where, more_group};
+ghost use Rattle.sql_front.specs.Machine.{want_select, selected, want_column, want_cond, group_word, first_item_k, first_group_k, group_k, where_k, begin_item, more_where, more_group};
 ghost use Rattle.sql_front.specs.Reads.{Leads, runs, runs_on, begin_from, begin_where, at_union, behind_tables};
 ghost use Rattle.sql_front.specs.Spell.{tables_start, tables_items, tables_from, tables_group};
-ghost use Rattle.sql_front.specs.Tree.{From, Where, Group, Start, union_all};
+ghost use Rattle.sql_front.specs.Tree.{From, Where, Group, Start};
 ghost use Rattle.sql_front.specs.View.{head_tree, selection_tree, where_tree, group_tree, select_tree};
 
 use crate::ParseFault;
@@ -10,9 +10,10 @@ use crate::columns::whole_column;
 use crate::conditions::cond;
 use crate::input::Input;
 use crate::items::selection;
-use crate::tables::{FromPart, UnionPlaces, from_part};
+use crate::lists::list_here;
+use crate::tables::{FromPart, UnionPlaces, all_word, from_part};
 use crate::tree::{Column, Cond, Select, Selection};
-use crate::words::{Unreserved, word_of};
+use crate::words::{Unreserved, word_ahead};
 use sql_tokens::{Keyword, What};
 use sqlite_items::Items;
 use std::alloc::Global;
@@ -121,7 +122,7 @@ fn by(input: &mut Input) -> Result<(), ParseFault>
 fn columns(alloc: Global, input: &mut Input) -> Result<Items<Column>, ParseFault>
     ensures led { (h : Where) → Leads (runs (want_column (group_k (first_group_k h)))) input.old result (λ cs. runs_on (more_group (group_tree h cs))) input.new }
 {
-    let mut columns = Items::new(alloc);
+    let mut columns = list_here(alloc, input, 2)?;
     loop {
         columns.push(whole_column(input)?)?;
         match input.peek().what {
@@ -145,29 +146,16 @@ fn group_part(alloc: Global, input: &mut Input) -> Result<Items<Column>, ParseFa
     }
 }
 
-/// The place of ALL behind UNION.
-fn all(input: &mut Input) -> Result<u32, ParseFault>
-    ensures led { (g : Group) (union : ℕ) → Leads (runs (union_word g union)) input.old result (λ at. runs (want_select (union_all g union at))) input.new }
-{
-    let token = input.peek();
-    match token.what {
-        What::Name(name) if word_of(&name) == Some(Unreserved::All) => {
-            input.advance();
-            Ok(token.at)
-        }
-        _ => Err(input.refuse(None)),
-    }
-}
-
 /// UNION and ALL, if they stand there.
 fn union_part(input: &mut Input) -> Result<Option<UnionPlaces>, ParseFault>
     ensures led { (g : Group) → Leads (runs_on (more_group g)) input.old result (λ places. at_union g places) input.new }
 {
-    let token = input.peek();
-    match token.what {
-        What::Name(name) if word_of(&name) == Some(Unreserved::Union) => {
+    let at = input.peek().at;
+    match word_ahead(input) {
+        Some(Unreserved::Union) => {
             input.advance();
-            Ok(Some((token.at, all(input)?)))
+            let places = all_word(input, at)?;
+            Ok(Some(places))
         }
         _ => Ok(None),
     }

@@ -1,9 +1,7 @@
-ghost use Rattle.std.specs.Prelude.{◌≡◌, ◌≤◌, ◌<◌, IfOk, OnOk, OnSome, false};
-ghost use Rattle.sql_tokens.specs.Tokens.{is_last};
+ghost use Rattle.std.specs.Prelude.{◌≡◌, ◌≤◌, ◌<◌, IfOk, OnOk};
 ghost use Rattle.sql_tokens.specs.declared.token.What.TheVariants as what;
 ghost use Rattle.sql_front.specs.Machine.{TableK, before_k, join_k, after_table, as_word, follow_table, want_table, left_word, union_word, join_word, want_select, want_cond, on_k, more_from, tables_behind};
-ghost use Rattle.sql_front.specs.Reads.{Leads, runs, runs_on, begin_from, behind_names, behind_tables, pair_of, word_seen, link_k, at_ahead};
-ghost use Rattle.sql_front.specs.Seen.{seen};
+ghost use Rattle.sql_front.specs.Reads.{Leads, runs, runs_on, begin_from, behind_names, behind_tables, pair_of, link_k, at_ahead};
 ghost use Rattle.sql_front.specs.Spell.{tables_before, tables_items, tables_from};
 ghost use Rattle.sql_front.specs.Tree.{Before, from, comma, From, Group, Items, bare, joined, renamed, renamed_as, table, union_all};
 ghost use Rattle.sql_front.specs.Tree as tree;
@@ -13,7 +11,7 @@ use crate::ParseFault;
 use crate::conditions::cond;
 use crate::input::Input;
 use crate::tree::{Cond, Join, More, NameAt, Table};
-use crate::words::{Unreserved, word_of};
+use crate::words::{Unreserved, word_ahead, word_of};
 use sql_tokens::{Keyword, Name, What};
 use std::alloc::Global;
 
@@ -62,17 +60,6 @@ fn pair_of(first: Option<Unreserved>, second: Option<Unreserved>) -> Option<Pair
     match (first, second) {
         (Some(Unreserved::Left), Some(Unreserved::Semi | Unreserved::Anti)) => Some(Pair::LeftJoin),
         (Some(Unreserved::Union), Some(Unreserved::All)) => Some(Pair::UnionAll),
-        _ => None,
-    }
-}
-
-/// The word that the first token is where such a word may stand.
-fn word_ahead(input: &Input) -> Option<Unreserved>
-    ensures word { result ≡ word_seen (seen input.now.text input.now.first) }
-    ensures name { OnSome result (is_last input.now.first.what ≡ false) }
-{
-    match input.peek().what {
-        What::Name(name) => word_of(&name),
         _ => None,
     }
 }
@@ -142,7 +129,6 @@ fn pass_join(input: &mut Input) -> Result<(), ParseFault>
 }
 
 /// SEMI JOIN or ANTI JOIN behind LEFT at this place.
-#[tactic(auto, using(crate::proofs::FromLemmas::semi_passed, crate::proofs::FromLemmas::anti_passed))]
 fn left_join(input: &mut Input, left: u32) -> Result<Join, ParseFault>
     ensures led { (f : From) → Leads (runs (left_word f left)) input.old result (λ j. runs (want_table (join_k f (join_tree j)))) input.new }
 {
@@ -163,7 +149,7 @@ fn left_join(input: &mut Input, left: u32) -> Result<Join, ParseFault>
 }
 
 /// ALL behind UNION at this place, and the places of both.
-fn all_word(input: &mut Input, union: u32) -> Result<UnionPlaces, ParseFault>
+pub(crate) fn all_word(input: &mut Input, union: u32) -> Result<UnionPlaces, ParseFault>
     ensures led { (g : Group) → Leads (runs (union_word g union)) input.old result (λ places. runs (want_select (union_all g places.0 places.1))) input.new }
 {
     let at = input.peek().at;

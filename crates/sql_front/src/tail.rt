@@ -7,6 +7,7 @@ ghost use Rattle.sql_front.specs.View.{key_of_tree, key_tree, order_tree, limit_
 use crate::ParseFault;
 use crate::columns::column;
 use crate::input::Input;
+use crate::lists::list_here;
 use crate::numbers::number;
 use crate::tree::{Key, KeyOf, NameAt, NumberAt};
 use sql_tokens::{Keyword, What};
@@ -21,36 +22,40 @@ const MOST_LIMIT: u128 = i64::MAX as u128;
 pub(crate) fn order_part(alloc: Global, input: &mut Input) -> Result<Items<Key>, ParseFault>
     ensures led { (g : Group) → Leads (runs_on (begin_order g)) input.old result (λ keys. runs_on (more_order (order_tree g keys))) input.new }
 {
-    if input.peek().what != What::Word(Keyword::Order) {
-        return Ok(Items::new(alloc));
+    match input.peek().what {
+        What::Word(Keyword::Order) => {
+            input.advance();
+            by_word(input)?;
+            keys(alloc, input)
+        }
+        _ => Ok(Items::new(alloc)),
     }
-    input.advance();
-    by_word(input)?;
-    keys(alloc, input)
 }
 
 /// BY behind ORDER.
 fn by_word(input: &mut Input) -> Result<(), ParseFault>
     ensures led { (g : Group) → Leads (runs (order_word g)) input.old result (λ _. runs (want_key (first_key_k g))) input.new }
 {
-    if input.peek().what != What::Word(Keyword::By) {
-        return Err(input.refuse(None));
+    match input.peek().what {
+        What::Word(Keyword::By) => {
+            input.advance();
+            Ok(())
+        }
+        _ => Err(input.refuse(None)),
     }
-    input.advance();
-    Ok(())
 }
 
 /// All keys.
 fn keys(alloc: Global, input: &mut Input) -> Result<Items<Key>, ParseFault>
     ensures led { (g : Group) → Leads (runs (want_key (first_key_k g))) input.old result (λ keys. runs_on (more_order (order_tree g keys))) input.new }
 {
-    let mut keys = Items::new(alloc);
+    let mut keys = list_here(alloc, input, 2)?;
     'keys: loop {
         keys.push(key(input)?)?;
-        if input.peek().what != What::Comma {
-            return Ok(keys);
+        match input.peek().what {
+            What::Comma => input.advance(),
+            _ => return Ok(keys),
         }
-        input.advance();
     }
 }
 
@@ -104,12 +109,14 @@ fn directed(input: &mut Input, of: KeyOf) -> Key
 pub(crate) fn limit_part(input: &mut Input) -> Result<Option<NumberAt>, ParseFault>
     ensures led { (o : Order) → Leads (runs_on (more_order o)) input.old result (λ n. runs_on (more_limited (limit_tree o n))) input.new }
 {
-    if input.peek().what != What::Word(Keyword::Limit) {
-        return Ok(None);
+    match input.peek().what {
+        What::Word(Keyword::Limit) => {
+            input.advance();
+            let n = number(input, 0, MOST_LIMIT)?;
+            Ok(Some(n))
+        }
+        _ => Ok(None),
     }
-    input.advance();
-    let n = number(input, 0, MOST_LIMIT)?;
-    Ok(Some(n))
 }
 
 /// Whether a `;` stands at the end of the text, behind which nothing may stand.

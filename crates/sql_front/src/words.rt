@@ -1,8 +1,11 @@
-ghost use Rattle.std.specs.Prelude.{◌≡◌};
-ghost use Rattle.sql_front.specs.Seen.{letters_of};
+ghost use Rattle.std.specs.Prelude.{◌≡◌, OnSome, false};
+ghost use Rattle.sql_tokens.specs.Tokens.{is_last};
+ghost use Rattle.sql_front.specs.Reads.{word_seen};
+ghost use Rattle.sql_front.specs.Seen.{letters_of, seen};
 ghost use Rattle.sql_front.specs.Words.{spelled, same_letters, first_spelled, unreserved};
 
-use sql_tokens::Name;
+use crate::input::Input;
+use sql_tokens::{Name, What};
 
 /// How two sides are compared.
 #[derive(Clone, Copy, Debug, PartialEq, Eq)]
@@ -124,4 +127,15 @@ pub(crate) fn word_of(name: &Name) -> Option<Unreserved>
     ensures { result ≡ unreserved (letters_of name.now) }
 {
     first_spelled(&EVERY_UNRESERVED, letters_of(name))
+}
+
+/// The word that the first token is where such a word may stand.
+pub(crate) fn word_ahead(input: &Input) -> Option<Unreserved>
+    ensures word { result ≡ word_seen (seen input.now.text input.now.first) }
+    ensures name { OnSome result (is_last input.now.first.what ≡ false) }
+{
+    match input.peek().what {
+        What::Name(name) => word_of(&name),
+        _ => None,
+    }
 }

@@ -8,8 +8,8 @@ use Rattle.sql_front.proofs.Passing.{passes_on}
 use Rattle.sql_front.proofs.TailLemmas.{key_behind-append, order_tree-append, keys_end}
 use Rattle.sql_front.proofs.tail.keys.Goals as goal
 
-pub returns-then-ne : goal.returns-then-ne
-returns-then-ne c = record {
+pub returns-in_default : goal.returns-in_default
+returns-in_default c = record {
   led = λ g.
       let behind = key_behind g c.keys.keys in
       let keys = add_key behind (key_tree c.in_ok-key.field-0) in
