@@ -112,21 +112,12 @@ fn first_spelled(words: &[Unreserved], letters: &[u8]) -> Option<Unreserved>
     None
 }
 
-fn letters_of(name: &Name) -> &[u8]
-    ensures { result.now ≡ letters_of name.now }
-{
-    let (letters, _) = name
-        .bytes
-        .split_at((name.len as usize).min(name.bytes.len()));
-    letters
-}
-
 /// The word that a name is where such a word may stand.
 #[tactic(auto, unfolding(crate::specs::Words::unreserved))]
 pub(crate) fn word_of(name: &Name) -> Option<Unreserved>
     ensures { result ≡ unreserved (letters_of name.now) }
 {
-    first_spelled(&EVERY_UNRESERVED, letters_of(name))
+    first_spelled(&EVERY_UNRESERVED, name.letters())
 }
 
 /// The word that the first token is where such a word may stand.
