@@ -1,0 +1,4 @@
+pub mod Bound
+pub mod Checks
+pub mod Names
+pub mod View

@@ -1,0 +1,154 @@
+ghost use Rattle.std.specs.Prelude.{◌≡◌, ℕ, IfOk};
+ghost use Rattle.sql_bind.specs.Bound.{bound_cond, bound_conj, bound_unit, operand_of, signed_number};
+ghost use Rattle.sql_bind.specs.Checks.{cond_checks, conj_checks, is_text, is_text_operand, side_checks, tells, unit_checks};
+ghost use Rattle.sql_bind.specs.View.{condition_of};
+ghost use Rattle.sql_front.specs.Tree.{compare};
+ghost use Rattle.sql_front.specs.View.{cond_tree, conj_tree, predicate_tree, side_tree};
+ghost use Rattle.sql_words.specs.Checks.{Checks};
+
+use crate::bound::{Condition, Operand};
+use crate::scope::{Scoped, meant};
+use crate::{BindFault, make};
+use qsr_value::{Bytes, ColKind};
+use sql_front::{Comparison, Cond, Conj, Predicate, Side};
+use sqlite_items::Items;
+use std::alloc::Global;
+
+/// Whether the values of a column are texts.
+pub(crate) fn is_text(kind: ColKind) -> bool
+    ensures { result ≡ is_text kind }
+{
+    match kind {
+        ColKind::Text { .. } => true,
+        ColKind::Int | ColKind::Wide => false,
+    }
+}
+
+fn is_text_operand(operand: &Operand) -> bool
+    ensures { result ≡ is_text_operand operand.now }
+{
+    match operand {
+        Operand::Column(column) => is_text(column.kind),
+        Operand::Number(_) => false,
+        Operand::Text(_) => true,
+    }
+}
+
+/// The number that a literal is, in 128 signed bits.
+#[tactic(auto, using(crate::proofs::ConditionLemmas::numbers))]
+fn signed_number(negative: bool, value: u128) -> i128
+    ensures { result ≡ signed_number negative value }
+{
+    let number = value.cast_signed();
+    if negative {
+        number.wrapping_neg()
+    } else {
+        number
+    }
+}
+
+/// A side of a comparison.
+fn operand(alloc: Global, scope: &[Scoped], side: &Side) -> Result<Operand, BindFault>
+    ensures checks { Checks tells (side_checks scope.now (side_tree side.now)) result }
+    ensures bound { IfOk result (λ o. o ≡ operand_of scope.now (side_tree side.now)) }
+{
+    match side {
+        Side::Column(column) => Ok(Operand::Column(meant(scope, column)?)),
+        Side::Number(number) => Ok(Operand::Number(signed_number(false, number.value))),
+        Side::Negative(_, number) => Ok(Operand::Number(signed_number(true, number.value))),
+        Side::Text(bytes) => Ok(Operand::Text(Bytes::from_slice(alloc, bytes.as_slice())?)),
+    }
+}
+
+/// A comparison, whose operator stands at this place.
+#[tactic(auto, using(crate::proofs::ConditionLemmas::comparing))]
+fn comparison(
+    alloc: Global,
+    scope: &[Scoped],
+    left: &Side,
+    how: Comparison,
+    at: u32,
+    right: &Side,
+) -> Result<Condition, BindFault>
+    ensures checks { Checks tells (unit_checks scope.now (compare (side_tree left.now) how at (side_tree right.now))) result }
+    ensures bound { IfOk result (λ c. condition_of c ≡ bound_unit scope.now (compare (side_tree left.now) how at (side_tree right.now))) }
+{
+    let left = operand(alloc, scope, left)?;
+    let right = operand(alloc, scope, right)?;
+    if is_text_operand(&left) != is_text_operand(&right) {
+        return Err(BindFault::TypeClash { at });
+    }
+    Ok(make::compared(left, how, right))
+}
+
+/// What AND and OR join.
+#[cycle(walk)]
+#[tactic(auto, using(crate::proofs::ConditionLemmas::walking))]
+pub(crate) fn unit(
+    alloc: Global,
+    scope: &[Scoped],
+    unit: &Predicate,
+) -> Result<Condition, BindFault>
+    ensures checks { Checks tells (unit_checks scope.now (predicate_tree unit.now)) result }
+    ensures bound { IfOk result (λ c. condition_of c ≡ bound_unit scope.now (predicate_tree unit.now)) }
+{
+    match unit {
+        Predicate::Not(count, inner) => {
+            let inner = self::unit(alloc, scope, inner.get())?;
+            Ok(make::opposites(alloc, *count, inner)?)
+        }
+        Predicate::Group(inner) => cond(alloc, scope, inner.get()),
+        Predicate::Compare(left, how, at, right) => {
+            comparison(alloc, scope, left, *how, *at, right)
+        }
+    }
+}
+
+#[cycle(walk)]
+#[tactic(auto, using(crate::proofs::ConditionLemmas::walking))]
+fn conj(alloc: Global, scope: &[Scoped], conj: &Conj) -> Result<Condition, BindFault>
+    ensures checks { Checks tells (conj_checks scope.now (conj_tree conj.now)) result }
+    ensures bound { IfOk result (λ c. condition_of c ≡ bound_conj scope.now (conj_tree conj.now)) }
+{
+    match conj {
+        Conj::One(only) => unit(alloc, scope, only),
+        Conj::Units(first, more) => {
+            let more = more.as_slice();
+            let first = unit(alloc, scope, first)?;
+            if more.is_empty() {
+                return Ok(first);
+            }
+            let mut all = Items::from_vec(Vec::with_capacity(alloc, more.len().saturating_add(1))?);
+            all.push(first)?;
+            for next in more {
+                all.push(unit(alloc, scope, next)?)?;
+            }
+            Ok(make::all_of(all))
+        }
+    }
+}
+
+/// A condition, with its names bound.
+#[cycle(walk)]
+#[tactic(auto, using(crate::proofs::ConditionLemmas::walking))]
+pub(crate) fn cond(alloc: Global, scope: &[Scoped], cond: &Cond) -> Result<Condition, BindFault>
+    ensures checks { Checks tells (cond_checks scope.now (cond_tree cond.now)) result }
+    ensures bound { IfOk result (λ c. condition_of c ≡ bound_cond scope.now (cond_tree cond.now)) }
+{
+    match cond {
+        Cond::Only(only) => conj(alloc, scope, only),
+        Cond::Conjs(first, more) => {
+            let more = more.as_slice();
+            let first = conj(alloc, scope, first)?;
+            if more.is_empty() {
+                return Ok(first);
+            }
+            let mut any = Items::from_vec(Vec::with_capacity(alloc, more.len().saturating_add(1))?);
+            any.push(first)?;
+            for next in more {
+                any.push(conj(alloc, scope, next)?)?;
+            }
+            Ok(make::any_of(any))
+        }
+    }
+}
