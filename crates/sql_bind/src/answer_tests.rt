@@ -183,7 +183,7 @@ const ITEMS: [(&str, Answer); 51] = [
 ];
 
 /// Each refusal before each other one, where both can be.
-const ORDERS: [(&str, Answer); 51] = [
+const ORDERS: [(&str, Answer); 54] = [
     ("SELECT x FROM a WHERE x = 'p' AND zz.x = 1", TypeClash(25)),
     (
         "SELECT x FROM a WHERE zz.x = 1 AND x = 'p'",
@@ -295,6 +295,15 @@ const ORDERS: [(&str, Answer); 51] = [
         Bound,
     ),
     ("SELECT x FROM a LIMIT 0", Bound),
+    ("SELECT zz.x FROM a WHERE z = 1", NoColumn("z", 26)),
+    (
+        "SELECT x FROM a UNION ALL SELECT v, k FROM t WHERE zz.x = 1",
+        NoTable("zz", 52),
+    ),
+    (
+        "SELECT x FROM a UNION ALL SELECT r.v FROM t, r WHERE v = 'a'",
+        Ambiguous("v", 54),
+    ),
 ];
 
 fn column(alloc: Global, name: &str, kind: ColKind) -> Result<Column, Memory> {
