@@ -1,5 +1,5 @@
 -- The first refusal of checks that follow one another.
-use Rattle.std.specs.Prelude.{◌≡◌, List, [], ◌∷◌, ◌++◌, Option, Some, None}
+use Rattle.std.specs.Prelude.{◌≡◌, List, ◌++◌, Option, Some, None}
 use Rattle.std.proofs.Common.{refl, ap, ◌∙◌}
 use Rattle.sql_words.proofs.Checking.{first_of_both}
 use Rattle.sql_words.specs.Checks.{Check, first_refusal, or_later, check_at_fault}

@@ -8,7 +8,7 @@ use Rattle.std.proofs.Math.IntN.{+ℤ_idl}
 use Rattle.std.proofs.Math.Nat.{mod-eq_of_lt}
 use Rattle.std.proofs.lemmas.Int.{wrapping_neg_is, SFits-int_wrap, int_wrap-sub_right}
 use Rattle.std.proofs.lemmas.Bool.{eqb-true}
-use Rattle.std.proofs.lemmas.List.{append-nil, at_drop_more, nil_from_length}
+use Rattle.std.proofs.lemmas.List.{append-nil, nil_from_length}
 use Rattle.sql_bind.specs.Bound.{Condition, Conditions, none, and_then, compared, all_of, any_of, opposite, opposites, signed_number, operand_of, bound_unit, bound_conj, bound_units, bound_cond, bound_conjs, and_conjuncts, and_units, and_parts}
 use Rattle.sql_bind.specs.Checks.{unit_checks, conj_checks, cond_checks, side_checks, refuse_if, differ, is_text_operand}
 use Rattle.sql_bind.specs.Names.{Scoped, Refusal, TypeClash}
@@ -25,6 +25,7 @@ use Rattle.sql_front.specs.declared.tree.Predicate.{Predicate}
 use Rattle.sql_front.specs.declared.tree.Predicate.TheVariants as predicate
 use Rattle.sql_front.specs.declared.words.Comparison.{Comparison}
 use Rattle.sql_bind.proofs.CheckLemmas.{passed, refused}
+use Rattle.sql_bind.proofs.FromLemmas.{drop_next}
 use Rattle.sql_bind.proofs.Making.{conditions_push}
 use Rattle.sql_front.proofs.Making.{group_tree, comparison_tree, one_tree, only_tree, units_are, conjs_are}
 use Rattle.sql_words.specs.Checks.{Check, first_refusal, check_at_fault}
@@ -260,9 +261,6 @@ pub ruleset comparing = (compare_bound, left_refused, right_refused, sides_passe
 
 -- ---- a loop over the rest of a list
 
-item_and_rest : {X : Type 0} (xs : List X) (i : ℕ) (x : X) → i < length xs → x ≡ get_or xs i x → drop i xs ≡ x ∷ drop (i + 1) xs
-item_and_rest xs i x within is = at_drop_more (λ ys. ys) xs i x within ∙ ap (λ y. y ∷ drop (i + 1) xs) (sym is)
-
 -- what is bound of units, and those that are left
 pub record UnitsLeft (scope : List Scoped) (j : ConjTree) (all : List code.Condition) (left : List Predicate) : Type 0 where
   pub checks : first_refusal (conj_checks scope j) ≡ first_refusal (units_checks scope left)
@@ -280,7 +278,7 @@ units_begin scope d all u us vs c is same some nothing made only =
 pub units_next : (scope : List Scoped) (j : ConjTree) (all pushed : List code.Condition) (us : List Predicate) (i : ℕ) (u : Predicate) (c : code.Condition) → i < length us → u ≡ get_or us i u → UnitsLeft scope j all (drop i us)
     → first_refusal (unit_checks scope (predicate_tree u)) ≡ None → condition_of c ≡ bound_unit scope (predicate_tree u) → pushed ≡ all ++ c ∷ [] → UnitsLeft scope j pushed (drop (i + 1) us)
 units_next scope j all pushed us i u c within is left nothing same push =
-    let e = item_and_rest us i u within is in
+    let e = drop_next us i u within is in
     record {
       checks = left.checks ∙ ap (λ vs. first_refusal (units_checks scope vs)) e ∙ passed (unit_checks scope (predicate_tree u)) (units_checks scope (drop (i + 1) us)) nothing;
       bound = left.bound ∙ ap (λ vs. all_of (units_behind scope (conditions_of all) vs)) e
@@ -293,7 +291,7 @@ pub units_refused : (scope : List Scoped) (j : ConjTree) (all : List code.Condit
     → first_refusal (unit_checks scope (predicate_tree u)) ≡ check_at_fault (first_refusal (unit_checks scope (predicate_tree u))) told
     → first_refusal (conj_checks scope j) ≡ check_at_fault (first_refusal (conj_checks scope j)) told
 units_refused scope j all us i u told within is left same =
-    let e = left.checks ∙ ap (λ vs. first_refusal (units_checks scope vs)) (item_and_rest us i u within is) in
+    let e = left.checks ∙ ap (λ vs. first_refusal (units_checks scope vs)) (drop_next us i u within is) in
     e ∙ refused (unit_checks scope (predicate_tree u)) (units_checks scope (drop (i + 1) us)) told same ∙ ap (λ check. check_at_fault check told) (sym e)
 
 -- a unit with which AND joins none
@@ -327,7 +325,7 @@ conjs_begin scope d all u us vs c is same some nothing made only =
 pub conjs_next : (scope : List Scoped) (j : CondTree) (all pushed : List code.Condition) (us : List Conj) (i : ℕ) (u : Conj) (c : code.Condition) → i < length us → u ≡ get_or us i u → ConjsLeft scope j all (drop i us)
     → first_refusal (conj_checks scope (conj_tree u)) ≡ None → condition_of c ≡ bound_conj scope (conj_tree u) → pushed ≡ all ++ c ∷ [] → ConjsLeft scope j pushed (drop (i + 1) us)
 conjs_next scope j all pushed us i u c within is left nothing same push =
-    let e = item_and_rest us i u within is in
+    let e = drop_next us i u within is in
     record {
       checks = left.checks ∙ ap (λ vs. first_refusal (conjs_checks scope vs)) e ∙ passed (conj_checks scope (conj_tree u)) (conjs_checks scope (drop (i + 1) us)) nothing;
       bound = left.bound ∙ ap (λ vs. any_of (conjs_behind scope (conditions_of all) vs)) e
@@ -340,7 +338,7 @@ pub conjs_refused : (scope : List Scoped) (j : CondTree) (all : List code.Condit
     → first_refusal (conj_checks scope (conj_tree u)) ≡ check_at_fault (first_refusal (conj_checks scope (conj_tree u))) told
     → first_refusal (cond_checks scope j) ≡ check_at_fault (first_refusal (cond_checks scope j)) told
 conjs_refused scope j all us i u told within is left same =
-    let e = left.checks ∙ ap (λ vs. first_refusal (conjs_checks scope vs)) (item_and_rest us i u within is) in
+    let e = left.checks ∙ ap (λ vs. first_refusal (conjs_checks scope vs)) (drop_next us i u within is) in
     e ∙ refused (conj_checks scope (conj_tree u)) (conjs_checks scope (drop (i + 1) us)) told same ∙ ap (λ check. check_at_fault check told) (sym e)
 
 -- a conjunction with which OR joins none
@@ -365,7 +363,7 @@ pub record PartsLeft (scope : List Scoped) (before : Conditions) (j : ConjTree) 
 pub parts_next : (scope : List Scoped) (before : Conditions) (j : ConjTree) (pushed next : Conditions) (us : List Predicate) (i : ℕ) (u : Predicate) → i < length us → u ≡ get_or us i u → PartsLeft scope before j pushed (drop i us)
     → first_refusal (unit_checks scope (predicate_tree u)) ≡ None → next ≡ and_parts scope pushed (predicate_tree u) → PartsLeft scope before j next (drop (i + 1) us)
 parts_next scope before j pushed next us i u within is left nothing same =
-    let e = item_and_rest us i u within is in
+    let e = drop_next us i u within is in
     record {
       checks = left.checks ∙ ap (λ vs. first_refusal (units_checks scope vs)) e ∙ passed (unit_checks scope (predicate_tree u)) (units_checks scope (drop (i + 1) us)) nothing;
       parts = left.parts ∙ ap (λ vs. parts_behind scope pushed vs) e ∙ ap (λ b. parts_behind scope b (drop (i + 1) us)) (sym same);
@@ -375,7 +373,7 @@ pub parts_refused : (scope : List Scoped) (before : Conditions) (j : ConjTree) (
     → first_refusal (unit_checks scope (predicate_tree u)) ≡ check_at_fault (first_refusal (unit_checks scope (predicate_tree u))) told
     → first_refusal (conj_checks scope j) ≡ check_at_fault (first_refusal (conj_checks scope j)) told
 parts_refused scope before j pushed us i u told within is left same =
-    let e = left.checks ∙ ap (λ vs. first_refusal (units_checks scope vs)) (item_and_rest us i u within is) in
+    let e = left.checks ∙ ap (λ vs. first_refusal (units_checks scope vs)) (drop_next us i u within is) in
     e ∙ refused (unit_checks scope (predicate_tree u)) (units_checks scope (drop (i + 1) us)) told same ∙ ap (λ check. check_at_fault check told) (sym e)
 
 pushed_one : (old new : List code.Condition) (c : code.Condition) (b : Condition) → condition_of c ≡ b → new ≡ old ++ c ∷ [] → conditions_of new ≡ and_then (conditions_of old) b

@@ -1,7 +1,8 @@
 -- One turn of the loops over items and keys; and where no column of GROUP BY is refused, all of them have a meaning.
-use Rattle.std.proofs.Common.{◌≡◌, refl, ap, ◌∙◌, ℕ, ◌+◌, ◌<◌, List, [], ◌∷◌, ◌++◌, length, drop, get_or, Option, Some, None, Result, Ok, Err}
+use Rattle.std.proofs.Common.{◌≡◌, refl, ap, ◌∙◌, ℕ, ◌+◌, ◌<◌, List, [], ◌∷◌, length, drop, get_or, Option, None, Result, Ok, Err}
 use Rattle.std.proofs.lemmas.List.{at_drop_more}
-use Rattle.sql_bind.proofs.CheckLemmas.{passed, refused}
+use Rattle.sql_bind.proofs.CheckLemmas.{passed}
+use Rattle.sql_bind.proofs.FromLemmas.{fault_before}
 use Rattle.sql_bind.specs.Bound.{bound_groups, key_of_key}
 use Rattle.sql_bind.specs.Checks.{and_meant, columns_checks, group_columns, item_checks, items_checks, key_checks, keys_checks}
 use Rattle.sql_bind.specs.Names.{Scoped, Refusal, meant, refusal_of, column_or}
@@ -13,12 +14,6 @@ use Rattle.sql_front.specs.declared.tree.Column as code_column
 use Rattle.sql_front.specs.declared.tree.Item.{Item}
 use Rattle.sql_front.specs.declared.tree.Key.{Key}
 use Rattle.sql_words.specs.Checks.{Check, first_refusal, check_at_fault}
-
--- The checks so far refuse nothing, and a fault tells of the first refusal of those that come next.
-refused_next : (all here later : List (Check Refusal)) (told : Option Refusal) → first_refusal all ≡ first_refusal (here ++ later)
-    → first_refusal here ≡ check_at_fault (first_refusal here) told → first_refusal all ≡ check_at_fault (first_refusal all) told
-refused_next all here later None left same = refl
-refused_next all here later (Some told) left same = left ∙ refused here later (Some told) same
 
 -- ---- items
 
@@ -34,7 +29,7 @@ pub item_refused : (all : List (Check Refusal)) (g : Grouping) (scope : List Sco
     → first_refusal (item_checks g scope (get_or items i d)) ≡ check_at_fault (first_refusal (item_checks g scope (get_or items i d))) told
     → first_refusal all ≡ check_at_fault (first_refusal all) told
 item_refused all g scope items i d told low left same =
-    refused_next all (item_checks g scope (get_or items i d)) (items_checks g scope (drop (i + 1) items)) told
+    fault_before (first_refusal all) (item_checks g scope (get_or items i d)) (items_checks g scope (drop (i + 1) items)) told
     (left ∙ at_drop_more (λ is. first_refusal (items_checks g scope is)) items i d low) same
 
 -- ---- keys
@@ -44,7 +39,7 @@ pub key_refused : (scope : List Scoped) (items : List BoundItem) (keys : List Ke
     → first_refusal (key_checks scope items (key_of_key (get_or keys i d))) ≡ check_at_fault (first_refusal (key_checks scope items (key_of_key (get_or keys i d)))) told
     → first_refusal (keys_checks scope items keys) ≡ check_at_fault (first_refusal (keys_checks scope items keys)) told
 key_refused scope items keys i d told low left same =
-    refused_next (keys_checks scope items keys) (key_checks scope items (key_of_key (get_or keys i d))) (keys_checks scope items (drop (i + 1) keys)) told
+    fault_before (first_refusal (keys_checks scope items keys)) (key_checks scope items (key_of_key (get_or keys i d))) (keys_checks scope items (drop (i + 1) keys)) told
     (left ∙ at_drop_more (λ ks. first_refusal (keys_checks scope items ks)) keys i d low) same
 
 -- ---- GROUP BY

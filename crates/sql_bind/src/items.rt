@@ -233,7 +233,7 @@ pub(crate) fn items(
     match selection {
         Selection::Star(at) if grouping.grouped => Err(BindFault::NeedsGroup { at: *at }),
         Selection::Star(_) => Ok(every_column(alloc, scope)?),
-        Selection::Items(first, more) => { listed(alloc, grouping, scope, first, more.as_slice()) }
+        Selection::Items(first, more) => listed(alloc, grouping, scope, first, more.as_slice()),
     }
 }
 
