@@ -1,3 +1,5 @@
 pub mod Firsts
 pub mod Groups
 pub mod Products
+pub mod Sorting
+pub mod Walking

@@ -1,6 +1,7 @@
 -- The tables of FROM one after another: what is asked of them, what they are bound to, and what is in scope.
 use Rattle.std.proofs.Common.{◌≡◌, sym, ap, ◌∙◌, subst, ℕ, ◌+◌, ◌<◌, List, [], ◌∷◌, ◌++◌, map, length, take, drop, get_or, Option, None, Result}
-use Rattle.std.proofs.lemmas.List.{append_assoc, drop_more, take_more, map-append}
+use Rattle.std.proofs.lemmas.List.{append_assoc, map-append}
+use Rattle.qsr_lists.proofs.Walking.{drop_next}
 use Rattle.sql_bind.specs.Bound.{BoundTable, bound_table, bound_tables}
 use Rattle.sql_bind.specs.Checks.{on_checks, ons_checks, tells}
 use Rattle.sql_bind.specs.Names.{Refusal, Scoped, scope_behind, scope_from, scoped, table_of}
@@ -11,14 +12,6 @@ use Rattle.sql_bind.specs.declared.names.NamedTable.{NamedTable}
 use Rattle.sql_bind.proofs.CheckLemmas.{passed, refused}
 use Rattle.sql_front.specs.declared.tree.More.{More}
 use Rattle.sql_words.specs.Checks.{Check, Checks, first_refusal, check_at_fault, told}
-
--- what is left begins with the next
-pub drop_next : {A : Type 0} (l : List A) (i : ℕ) (x : A) → i < length l → x ≡ get_or l i x → drop i l ≡ x ∷ drop (i + 1) l
-drop_next l i x low is = drop_more l i x low ∙ ap (λ y. y ∷ drop (i + 1) l) (sym is)
-
--- what is taken ends with the last
-pub take_next : {A : Type 0} (l : List A) (i : ℕ) (x : A) → i < length l → x ≡ get_or l i x → take (i + 1) l ≡ take i l ++ x ∷ []
-take_next l i x low is = take_more l i x low ∙ ap (λ y. take i l ++ y ∷ []) (sym is)
 
 -- a fault in checks that others follow is one of all
 pub fault_before : (all : Check Refusal) (xs ys : List (Check Refusal)) (said : Option Refusal) → all ≡ first_refusal (xs ++ ys)

@@ -11,7 +11,7 @@ use Rattle.sql_bind.specs.declared.bound.BoundItem.{BoundItem}
 use Rattle.sql_bind.specs.declared.bound.BoundSelect as code_select
 use Rattle.sql_bind.specs.declared.names.NamedTable.{NamedTable}
 use Rattle.sql_bind.proofs.CheckLemmas.{passed}
-use Rattle.sql_bind.proofs.FromLemmas.{drop_next, take_next}
+use Rattle.qsr_lists.proofs.Walking.{drop_next, take_next}
 use Rattle.sql_front.specs.declared.tree.Select.{Select}
 use Rattle.sql_front.specs.declared.tree.UnionAll.{UnionAll}
 use Rattle.sql_words.specs.Checks.{Check, check_at_fault, first_refusal}

@@ -1,5 +1,5 @@
--- The bound query of the values that the binder makes.
-use Rattle.std.specs.Prelude.{List, [], ◌∷◌, map}
+-- The bound query of the values that the binder makes, and the further units of a condition that it reads.
+use Rattle.std.specs.Prelude.{Bool, true, false, ◌||◌, List, [], ◌∷◌, map}
 use Rattle.sql_bind.specs.Bound as bound
 use Rattle.sql_bind.specs.Bound.{Conditions, none, and_then, compared, opposite, all_of, any_of}
 use Rattle.sql_bind.specs.declared.bound.Bound as code_bound
@@ -7,6 +7,10 @@ use Rattle.sql_bind.specs.declared.bound.BoundSelect as code_select
 use Rattle.sql_bind.specs.declared.bound.BoundTable as code_table
 use Rattle.sql_bind.specs.declared.bound.Condition.{Condition}
 use Rattle.sql_bind.specs.declared.bound.Condition.TheBlock.{Row_of-Condition, end_of-Condition, more_of-Condition, Compare, Not', All', Any'}
+use Rattle.sql_front.specs.Tree.{UnitTree}
+use Rattle.sql_front.specs.View.{predicate_tree}
+use Rattle.sql_front.specs.declared.tree.Joined.{Joined}
+use Rattle.sql_front.specs.declared.tree.Joined.TheVariants as joined
 
 unfoldable mutual
   pub condition_of : Condition → bound.Condition
@@ -35,3 +39,18 @@ select_view s = record { distinct = s.distinct; tables = map table_view s.tables
 
 abbrev pub bound_view : code_bound.Bound → bound.Bound
 bound_view b = record { first = select_view b.first; others = map select_view b.others; order_by = b.order_by; limit = b.limit; options = b.options }
+
+-- ---- the further units of a condition
+
+abbrev pub joined_unit : Joined → UnitTree
+joined_unit (joined.And u) = predicate_tree u
+joined_unit (joined.Or u) = predicate_tree u
+
+abbrev pub is_or : Joined → Bool
+is_or (joined.And u) = false
+is_or (joined.Or u) = true
+
+-- whether OR joins some of these units to those before them
+abbrev pub has_or : List Joined → Bool
+has_or [] = false
+has_or (j ∷ js) = is_or j || has_or js

@@ -1,17 +1,18 @@
 ghost use Rattle.std.specs.Prelude.{◌≡◌, ℕ, IfOk};
-ghost use Rattle.sql_bind.specs.Bound.{bound_cond, bound_conj, bound_unit, operand_of, signed_number};
-ghost use Rattle.sql_bind.specs.Checks.{cond_checks, conj_checks, is_text, is_text_operand, side_checks, tells, unit_checks};
-ghost use Rattle.sql_bind.specs.View.{condition_of};
+ghost use Rattle.sql_bind.specs.Bound.{bound_cond, bound_unit, operand_of, signed_number};
+ghost use Rattle.sql_bind.specs.Checks.{cond_checks, is_text, is_text_operand, side_checks, tells, unit_checks};
+ghost use Rattle.sql_bind.specs.Gathered.{condition_view, next_read};
+ghost use Rattle.sql_bind.specs.View.{condition_of, joined_unit};
 ghost use Rattle.sql_front.specs.Tree.{compare};
-ghost use Rattle.sql_front.specs.View.{cond_tree, conj_tree, predicate_tree, side_tree};
+ghost use Rattle.sql_front.specs.View.{cond_tree, predicate_tree, side_tree};
 ghost use Rattle.sql_words.specs.Checks.{Checks};
 
 use crate::bound::{Condition, Operand};
+use crate::make::OpenCondition;
 use crate::scope::{Scoped, meant};
 use crate::{BindFault, make};
 use qsr_value::{Bytes, ColKind};
-use sql_front::{Comparison, Cond, Conj, Predicate, Side};
-use sqlite_items::Items;
+use sql_front::{Comparison, Cond, Joined, Predicate, Side};
 use std::alloc::Global;
 
 /// Whether the values of a column are texts.
@@ -35,7 +36,7 @@ fn is_text_operand(operand: &Operand) -> bool
 }
 
 /// The number that a literal is, in 128 signed bits.
-#[tactic(auto, using(crate::proofs::ConditionLemmas::numbers))]
+#[tactic(auto, using(crate::proofs::ComparisonLemmas::numbers))]
 fn signed_number(negative: bool, value: u128) -> i128
     ensures { result ≡ signed_number negative value }
 {
@@ -61,7 +62,7 @@ fn operand(alloc: Global, scope: &[Scoped], side: &Side) -> Result<Operand, Bind
 }
 
 /// A comparison, whose operator stands at this place.
-#[tactic(auto, using(crate::proofs::ConditionLemmas::comparing))]
+#[tactic(auto, using(crate::proofs::ComparisonLemmas::comparing))]
 fn comparison(
     alloc: Global,
     scope: &[Scoped],
@@ -81,7 +82,7 @@ fn comparison(
     Ok(make::compared(left, how, right))
 }
 
-/// What AND and OR join.
+/// What AND and OR join: a comparison, or a condition in parentheses, behind so many NOTs.
 #[cycle(walk)]
 #[tactic(auto, using(crate::proofs::ConditionLemmas::walking))]
 pub(crate) fn unit(
@@ -93,37 +94,37 @@ pub(crate) fn unit(
     ensures bound { IfOk result (λ c. condition_of c ≡ bound_unit scope.now (predicate_tree unit.now)) }
 {
     match unit {
-        Predicate::Not(count, inner) => {
-            let inner = self::unit(alloc, scope, inner.get())?;
+        Predicate::Group(count, inner) => {
+            let inner = cond(alloc, scope, inner.get())?;
             Ok(make::opposites(alloc, *count, inner)?)
         }
-        Predicate::Group(inner) => cond(alloc, scope, inner.get()),
-        Predicate::Compare(left, how, at, right) => {
-            comparison(alloc, scope, left, *how, *at, right)
+        Predicate::Compare(count, left, how, at, right) => {
+            let inner = comparison(alloc, scope, left, *how, *at, right)?;
+            Ok(make::opposites(alloc, *count, inner)?)
         }
     }
 }
 
+/// A further unit, behind what is read before it.
 #[cycle(walk)]
 #[tactic(auto, using(crate::proofs::ConditionLemmas::walking))]
-fn conj(alloc: Global, scope: &[Scoped], conj: &Conj) -> Result<Condition, BindFault>
-    ensures checks { Checks tells (conj_checks scope.now (conj_tree conj.now)) result }
-    ensures bound { IfOk result (λ c. condition_of c ≡ bound_conj scope.now (conj_tree conj.now)) }
+fn joined(
+    alloc: Global,
+    scope: &[Scoped],
+    before: OpenCondition,
+    next: &Joined,
+) -> Result<OpenCondition, BindFault>
+    ensures checks { Checks tells (unit_checks scope.now (joined_unit next.now)) result }
+    ensures bound { IfOk result (λ r. condition_view r ≡ next_read scope.now (condition_view before) next.now) }
 {
-    match conj {
-        Conj::One(only) => unit(alloc, scope, only),
-        Conj::Units(first, more) => {
-            let more = more.as_slice();
-            let first = unit(alloc, scope, first)?;
-            if more.is_empty() {
-                return Ok(first);
-            }
-            let mut all = Items::from_vec(Vec::with_capacity(alloc, more.len().saturating_add(1))?);
-            all.push(first)?;
-            for next in more {
-                all.push(unit(alloc, scope, next)?)?;
-            }
-            Ok(make::all_of(all))
+    match next {
+        Joined::And(next) => {
+            let next = unit(alloc, scope, next)?;
+            Ok(make::behind_and(alloc, before, next)?)
+        }
+        Joined::Or(next) => {
+            let next = unit(alloc, scope, next)?;
+            Ok(make::behind_or(before, next)?)
         }
     }
 }
@@ -136,19 +137,14 @@ pub(crate) fn cond(alloc: Global, scope: &[Scoped], cond: &Cond) -> Result<Condi
     ensures bound { IfOk result (λ c. condition_of c ≡ bound_cond scope.now (cond_tree cond.now)) }
 {
     match cond {
-        Cond::Only(only) => conj(alloc, scope, only),
-        Cond::Conjs(first, more) => {
+        Cond::Units(first, more) => {
             let more = more.as_slice();
-            let first = conj(alloc, scope, first)?;
-            if more.is_empty() {
-                return Ok(first);
-            }
-            let mut any = Items::from_vec(Vec::with_capacity(alloc, more.len().saturating_add(1))?);
-            any.push(first)?;
+            let first = unit(alloc, scope, first)?;
+            let mut read = make::first_read(alloc, first);
             for next in more {
-                any.push(conj(alloc, scope, next)?)?;
+                read = joined(alloc, scope, read, next)?;
             }
-            Ok(make::any_of(any))
+            Ok(make::finished(read)?)
         }
     }
 }

@@ -1,8 +1,10 @@
 -- What the functions of the parser say: how a run of the machine goes on.
-use Rattle.std.specs.Prelude.{◌≡◌, ℕ, if◌then◌else◌, List, ◌∷◌, Option, Some, None, Result}
+use Rattle.std.specs.Prelude.{◌≡◌, ℕ, zero, suc, if◌then◌else◌, List, ◌∷◌, Option, Some, None, Result}
 use Rattle.sql_tokens.specs.declared.token.Keyword.TheVariants as kw
 use Rattle.sql_tokens.specs.declared.token.Token.{Token}
 use Rattle.sql_tokens.specs.declared.token.What.{What}
+use Rattle.sql_front.specs.declared.conditions.Joint.{Joint}
+use Rattle.sql_front.specs.declared.conditions.Joint.TheVariants as joint
 use Rattle.sql_front.specs.declared.fault.ParseFault.{ParseFault}
 use Rattle.sql_front.specs.declared.fault.ParseFault.TheVariants as fault
 use Rattle.sql_front.specs.declared.tables.Ahead.{Ahead}
@@ -13,12 +15,12 @@ use Rattle.sql_front.specs.declared.tables.Pair.{Pair}
 use Rattle.sql_front.specs.declared.tables.Pair.TheVariants as pair
 use Rattle.sql_front.specs.declared.words.Unreserved.{Unreserved}
 use Rattle.sql_front.specs.declared.words.Unreserved.TheVariants as u
-use Rattle.sql_front.specs.Machine.{State, want, want_cond, want_table, want_select, order_word, ended, running, free_limit, UnitK, ConjK, first_k, or_k, CondK, where_k}
-use Rattle.sql_front.specs.Machine.{ItemK, TableK, before_k, join_k, give, joined_cond, below, follow_conj, follow_cond, follow_table, behind_table, begin_item, more_where, more_order}
+use Rattle.sql_front.specs.Machine.{State, want_cond, want_table, want_select, order_word, ended, running, free_limit, UnitK, not_k, only_k, or_k, CondK, where_k}
+use Rattle.sql_front.specs.Machine.{ItemK, TableK, before_k, join_k, give, follow_conj, follow_table, behind_table, begin_item, more_where, more_order}
 use Rattle.sql_front.specs.Seen.{Seen, seen, words}
 use Rattle.sql_front.specs.Seen as w
-use Rattle.sql_front.specs.Tree.{UnitTree, ConjTree, CondTree, Items, from, comma, From, Table, bare, no_where, Group, no_group, no_order, Query, union_all}
-use Rattle.sql_front.specs.View.{join_tree}
+use Rattle.sql_front.specs.Tree.{UnitTree, CondTree, one_conj, or_conj, Items, from, comma, From, Table, bare, no_where, Group, no_group, no_order, Query, union_all}
+use Rattle.sql_front.specs.View.{and_last, or_last, join_tree}
 use Rattle.sql_front.specs.Words.{unreserved}
 use Rattle.sql_words.specs.Machine.{Outcome, Read, Stopped, on_step, outcome}
 use Rattle.sql_words.specs.Reading.{Refusal, Syntax, WideLiteral, refusal_at}
@@ -68,11 +70,6 @@ Leads stands old result behind new = stands old ≡ outcome tells (stands old) r
 abbrev pub follow_unit : UnitK → UnitTree → Seen → Option State
 follow_unit k u t = let a = give k u in follow_conj a.0 a.1 t
 
--- a conjunction whose last AND was read
-abbrev pub follow_or : ConjTree → ConjK → Seen → Option State
-follow_or c k (w.Word kw.Or) = Some (want (first_k (or_k (joined_cond c k) (below k))))
-follow_or c k t = follow_cond (below k) (joined_cond c k) t
-
 -- an item, but for `*`
 abbrev pub begin_listed : ItemK → Seen → Option State
 begin_listed k (w.Star at) = None
@@ -120,10 +117,26 @@ comparison_of what.More = Some op.More
 comparison_of what.AtLeast = Some op.AtLeast
 comparison_of t = None
 
--- a condition whose last OR was read
-abbrev pub follow_joined : CondTree → CondK → Seen → Option State
-follow_joined c k (w.Word kw.Or) = Some (want (first_k (or_k c k)))
-follow_joined c k t = follow_cond k c t
+-- so many NOTs that were read before a unit
+abbrev pub nots_k : ℕ → UnitK → UnitK
+nots_k zero k = k
+nots_k (suc n) k = not_k (nots_k n k)
+
+-- the word that joins a further unit
+abbrev pub joint_of : What → Option Joint
+joint_of (what.Word kw.And) = Some joint.And
+joint_of (what.Word kw.Or) = Some joint.Or
+joint_of t = None
+
+-- a unit behind such a word
+abbrev pub joined_last : Joint → CondTree → UnitTree → CondTree
+joined_last joint.And c u = and_last c u
+joined_last joint.Or c u = or_last c u
+
+-- a condition whose last unit was read
+abbrev pub follow_last : CondTree → CondK → Seen → Option State
+follow_last (one_conj j) k t = follow_conj j (only_k k) t
+follow_last (or_conj c j) k t = follow_conj j (or_k c k) t
 
 -- ---- between tables
 

@@ -10,9 +10,9 @@ use Rattle.sql_front.specs.declared.tree.Column.TheVariants as column
 use Rattle.sql_front.specs.declared.tree.Side.{Side}
 use Rattle.sql_front.specs.declared.tree.Side.TheVariants as side
 use Rattle.sql_front.specs.declared.tree.Predicate.{Predicate}
-use Rattle.sql_front.specs.declared.tree.Conj.{Conj}
+use Rattle.sql_front.specs.declared.tree.Joined.{Joined}
 use Rattle.sql_front.specs.declared.tree.Cond.{Cond}
-use Rattle.sql_front.specs.declared.tree.Cond.TheBlock.{Row_of-Predicate, end_of-Predicate, more_of-Predicate, Row_of-Conj, end_of-Conj, more_of-Conj, Not', Group', Compare, One, Units', Only, Conjs', more_of-Cond, end_of-Cond}
+use Rattle.sql_front.specs.declared.tree.Cond.TheBlock.{Row_of-Joined, end_of-Joined, more_of-Joined, Group', Compare, And, Or, Units', more_of-Cond, end_of-Cond}
 use Rattle.sql_front.specs.declared.tree.Item.{Item}
 use Rattle.sql_front.specs.declared.tree.Item.TheVariants as item
 use Rattle.sql_front.specs.declared.tree.Selection.{Selection}
@@ -51,42 +51,44 @@ side_tree (side.Text bytes) = tree.quoted bytes
 
 -- ---- conditions
 
--- what so many NOTs stand before
+-- a unit behind so many NOTs
 abbrev pub negations : ℕ → tree.UnitTree → tree.UnitTree
 negations zero u = u
 negations (suc n) u = tree.negation (negations n u)
 
+abbrev pub one_cond : tree.UnitTree → tree.CondTree
+one_cond u = tree.one_conj (tree.one_unit u)
+
+-- a unit that AND joins to the last conjunction
+abbrev pub and_last : tree.CondTree → tree.UnitTree → tree.CondTree
+and_last (tree.one_conj j) u = tree.one_conj (tree.and_unit j u)
+and_last (tree.or_conj c j) u = tree.or_conj c (tree.and_unit j u)
+
+-- a unit that begins a conjunction behind OR
+abbrev pub or_last : tree.CondTree → tree.UnitTree → tree.CondTree
+or_last c u = tree.or_conj c (tree.one_unit u)
+
 unfoldable mutual
   pub predicate_tree : Predicate → tree.UnitTree
-  predicate_tree (Not' n s (more_of-Predicate u end_of-Predicate)) = negations n (predicate_tree u)
-  predicate_tree (Group' s (more_of-Cond c end_of-Cond)) = tree.group (cond_tree c)
-  predicate_tree (Compare l op at r) = tree.compare (side_tree l) op at (side_tree r)
-
-  pub conj_tree : Conj → tree.ConjTree
-  conj_tree (One u) = tree.one_unit (predicate_tree u)
-  conj_tree (Units' u s row) = units_tree (tree.one_unit (predicate_tree u)) row
-
-  pub units_tree : {n : _} → tree.ConjTree → Row_of-Predicate n → tree.ConjTree
-  units_tree before end_of-Predicate = before
-  units_tree before (more_of-Predicate u rest) = units_tree (tree.and_unit before (predicate_tree u)) rest
+  predicate_tree (Group' n s (more_of-Cond c end_of-Cond)) = negations n (tree.group (cond_tree c))
+  predicate_tree (Compare n l op at r) = negations n (tree.compare (side_tree l) op at (side_tree r))
 
   pub cond_tree : Cond → tree.CondTree
-  cond_tree (Only c) = tree.one_conj (conj_tree c)
-  cond_tree (Conjs' c s row) = conjs_tree (tree.one_conj (conj_tree c)) row
+  cond_tree (Units' u s row) = row_tree (one_cond (predicate_tree u)) row
 
-  pub conjs_tree : {n : _} → tree.CondTree → Row_of-Conj n → tree.CondTree
-  conjs_tree before end_of-Conj = before
-  conjs_tree before (more_of-Conj c rest) = conjs_tree (tree.or_conj before (conj_tree c)) rest
+  pub row_tree : {n : _} → tree.CondTree → Row_of-Joined n → tree.CondTree
+  row_tree before end_of-Joined = before
+  row_tree before (more_of-Joined j rest) = row_tree (next_unit before j) rest
 
--- units that AND joins, behind those that stand before them
-abbrev pub more_units : tree.ConjTree → List Predicate → tree.ConjTree
-more_units before [] = before
-more_units before (u ∷ rest) = more_units (tree.and_unit before (predicate_tree u)) rest
+  -- a further unit, behind those that stand before it
+  pub next_unit : tree.CondTree → Joined → tree.CondTree
+  next_unit before (And u) = and_last before (predicate_tree u)
+  next_unit before (Or u) = or_last before (predicate_tree u)
 
--- conjunctions that OR joins, behind those that stand before them
-abbrev pub more_conjs : tree.CondTree → List Conj → tree.CondTree
-more_conjs before [] = before
-more_conjs before (c ∷ rest) = more_conjs (tree.or_conj before (conj_tree c)) rest
+-- further units, behind those that stand before them
+abbrev pub more_joined : tree.CondTree → List Joined → tree.CondTree
+more_joined before [] = before
+more_joined before (j ∷ rest) = more_joined (next_unit before j) rest
 
 abbrev pub item_tree : Item → tree.Item
 item_tree (item.Column c) = tree.bare_item (column_tree c)

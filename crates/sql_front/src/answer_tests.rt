@@ -148,7 +148,7 @@ const SELECTS: [(&str, Answer); 100] = [
 ];
 
 /// Conditions and literals.
-const CONDITIONS: [(&str, Answer); 76] = [
+const CONDITIONS: [(&str, Answer); 86] = [
     ("SELECT * FROM a WHERE x = 1", Read),
     ("SELECT * FROM a WHERE", Syntax(22)),
     ("SELECT * FROM a WHERE x", Syntax(24)),
@@ -171,6 +171,22 @@ const CONDITIONS: [(&str, Answer); 76] = [
     ("SELECT * FROM a WHERE NOT x = 1", Read),
     ("SELECT * FROM a WHERE NOT NOT x = 1", Read),
     ("SELECT * FROM a WHERE NOT", Syntax(26)),
+    ("SELECT * FROM a WHERE NOT AND x = 1", Syntax(27)),
+    ("SELECT * FROM a WHERE x NOT = 1", Syntax(25)),
+    ("SELECT * FROM a WHERE NOT NOT (x = 1 AND NOT y = 2)", Read),
+    (
+        "SELECT * FROM a WHERE x = 1 OR NOT y = 2 AND NOT (z = 3)",
+        Read,
+    ),
+    ("SELECT * FROM a WHERE x = 1 AND NOT y = 2 OR z = 3", Read),
+    (
+        "SELECT * FROM a WHERE (x = 1 OR (y = 2 AND z = 3)) AND v = 4 OR w = 5",
+        Read,
+    ),
+    ("SELECT * FROM a WHERE x = 1 OR y = 2 AND", Syntax(41)),
+    ("SELECT * FROM a WHERE x = 1 AND y = 2 OR", Syntax(41)),
+    ("SELECT * FROM a WHERE x = 1 AND OR y = 2", Syntax(33)),
+    ("SELECT * FROM a WHERE NOT (x = 1 OR y = 2", Syntax(42)),
     ("SELECT * FROM a WHERE NOT (x = 1 OR y = 2) AND z = 3", Read),
     ("SELECT * FROM a WHERE (x = 1)", Read),
     ("SELECT * FROM a WHERE ((x = 1) OR (y = 2))", Read),

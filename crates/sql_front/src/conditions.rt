@@ -1,30 +1,38 @@
-ghost use Rattle.std.specs.Prelude.{◌≡◌, ◌<◌, ◌≤◌, false, length, OnOk};
+ghost use Rattle.std.specs.Prelude.{◌≡◌, ◌<◌, ◌≤◌, ◌+◌, [], false, length, IfOk, OnOk};
 ghost use Rattle.sql_tokens.specs.Tokens.{is_last};
 ghost use Rattle.sql_tokens.specs.declared.token.Keyword.TheVariants as keyword;
 ghost use Rattle.sql_tokens.specs.declared.token.What.TheVariants as what;
-ghost use Rattle.sql_front.specs.Machine.{SideK, left_k, right_k, UnitK, ConjK, first_k, CondK, paren_k, not_k, negated, want, want_cond, begin_side, follow_left, follow_side, follow_cond, open_unit, open_conj, open_cond};
-ghost use Rattle.sql_front.specs.Reads.{Leads, runs, runs_on, follow_unit, follow_or, comparison_of};
+ghost use Rattle.sql_front.specs.Machine.{SideK, left_k, right_k, UnitK, CondK, paren_k, not_k, negated, want, want_cond, begin_side, follow_left, follow_side, follow_cond, open_unit, open_cond};
+ghost use Rattle.sql_front.specs.Reads.{Leads, runs, runs_on, follow_unit, nots_k, joint_of, joined_last, comparison_of};
 ghost use Rattle.sql_front.specs.Tree as grammar;
 ghost use Rattle.sql_front.specs.Tree.{CondTree, negative, group};
-ghost use Rattle.sql_front.specs.View.{number_tree, side_tree, predicate_tree, conj_tree, cond_tree};
+ghost use Rattle.sql_front.specs.View.{number_tree, side_tree, predicate_tree, next_unit, cond_tree};
 
 use crate::columns::column;
 use crate::input::{Input, is_wide};
-use crate::lists::list_behind;
-use crate::tree::{Cond, Conj, NameAt, NumberAt, Predicate, Side};
+use crate::lists::{Gathered, with_room};
+use crate::tree::{Cond, Joined, NameAt, NumberAt, Predicate, Side};
 use crate::words::Comparison;
 use crate::{ParseFault, make};
 use sql_tokens::{Keyword, Token, What};
-use std::alloc::Global;
+use std::alloc::{AllocError, Global};
 
 /// How many parentheses and NOTs may be open at once.
 const MOST_OPEN: u8 = 64;
 
-/// The fewest bytes that AND and a unit take, as `AND 1=1 `.
-const LEAST_UNIT: usize = 8;
+/// The fewest bytes that a further unit takes with the word that joins it, as `OR 1=1 `.
+const LEAST_UNIT: usize = 7;
 
-/// The fewest bytes that OR and a conjunction take, as `OR 1=1 `.
-const LEAST_CONJ: usize = 7;
+/// How many places a list of units keeps, used or not. They are large, and a text of 200 bytes
+/// takes no more.
+const MOST_KEPT: usize = 32;
+
+/// A word that joins a further unit.
+#[derive(Clone, Copy, Debug, PartialEq, Eq)]
+enum Joint {
+    And,
+    Or,
+}
 
 /// A side of a comparison.
 fn side(alloc: Global, input: &mut Input) -> Result<Side, ParseFault>
@@ -98,15 +106,16 @@ fn operator(input: &mut Input) -> Result<(Comparison, u32), ParseFault>
     Ok((how, at))
 }
 
-/// A comparison of two sides.
-fn compare(alloc: Global, input: &mut Input) -> Result<Predicate, ParseFault>
-    ensures led { (k : UnitK) → Leads (runs_on (begin_side (left_k k))) input.old result (λ p. runs_on (follow_unit k (predicate_tree p))) input.new }
+/// A comparison of two sides, behind so many NOTs.
+#[tactic(auto, using(crate::proofs::ConditionTokens::unit_negated))]
+fn compare(alloc: Global, input: &mut Input, nots: u8) -> Result<Predicate, ParseFault>
+    ensures led { (k : UnitK) → Leads (runs_on (begin_side (left_k (nots_k nots k)))) input.old result (λ p. runs_on (follow_unit k (predicate_tree p))) input.new }
     ensures shorter { OnOk result (length input.new.rest < length input.old.rest) }
 {
     let left = side(alloc, input)?;
     let (how, at) = operator(input)?;
     let right = side(alloc, input)?;
-    Ok(make::comparison(left, how, at, right))
+    Ok(make::comparison(nots, left, how, at, right))
 }
 
 /// Passes the NOT or `(` here, inside so many of both.
@@ -127,13 +136,30 @@ fn open(input: &mut Input, depth: u8) -> Result<(), ParseFault>
     Ok(())
 }
 
-/// What stands in parentheses, once its condition was read.
-fn closed(alloc: Global, input: &mut Input, inner: Cond) -> Result<Predicate, ParseFault>
-    ensures led { (k : UnitK) → Leads (runs_on (follow_cond (paren_k k) (cond_tree inner))) input.old result (λ p. runs_on (follow_unit k (predicate_tree p))) input.new }
+/// Passes the NOTs here, inside so many parentheses and NOTs, and says how many they are.
+fn nots(input: &mut Input, depth: u8) -> Result<u8, ParseFault>
+    requires { depth ≤ 64 }
+    ensures led { (k : UnitK) → open_unit k ≡ depth → Leads (runs (want k)) input.old result (λ n. runs (want (nots_k n k))) input.new }
+    ensures within { IfOk result (λ n. depth + n ≤ 64) }
+    ensures all { OnOk result (input.new.first.what ≡ what.Word keyword.Not → ⊥) }
+    ensures shorter { OnOk result (length input.new.rest ≤ length input.old.rest) }
+{
+    let mut count: u8 = 0;
+    'nots: while input.peek().what == What::Word(Keyword::Not) {
+        open(input, depth + count)?;
+        count += 1;
+    }
+    Ok(count)
+}
+
+/// What stands in parentheses behind so many NOTs, once its condition was read.
+#[tactic(auto, using(crate::proofs::ConditionTokens::unit_negated))]
+fn closed(alloc: Global, input: &mut Input, nots: u8, inner: Cond) -> Result<Predicate, ParseFault>
+    ensures led { (k : UnitK) → Leads (runs_on (follow_cond (paren_k (nots_k nots k)) (cond_tree inner))) input.old result (λ p. runs_on (follow_unit k (predicate_tree p))) input.new }
     ensures shorter { OnOk result (length input.new.rest < length input.old.rest) }
 {
     close(input)?;
-    Ok(make::group(alloc, inner)?)
+    Ok(make::group(alloc, nots, inner)?)
 }
 
 /// The `)` behind a condition.
@@ -150,58 +176,70 @@ fn close(input: &mut Input) -> Result<(), ParseFault>
     }
 }
 
-/// A comparison, or what stands in parentheses or behind NOT, inside so many of both.
+/// The word that this is, if it joins a further unit.
+fn joint_of(what: What) -> Option<Joint>
+    ensures { result ≡ joint_of what }
+{
+    match what {
+        What::Word(Keyword::And) => Some(Joint::And),
+        What::Word(Keyword::Or) => Some(Joint::Or),
+        _ => None,
+    }
+}
+
+/// A unit behind such a word.
+fn joined_by(joint: Joint, unit: Predicate) -> Joined
+    ensures { (before : CondTree) → next_unit before result ≡ joined_last joint before (predicate_tree unit) }
+{
+    match joint {
+        Joint::And => make::and(unit),
+        Joint::Or => make::or(unit),
+    }
+}
+
+/// An empty list for the units behind a first one. Where none stands there, nothing is allocated.
+fn units_behind(alloc: Global, input: &Input) -> Result<Gathered<Joined>, AllocError>
+    ensures { IfOk result (λ units. units ≡ []) }
+{
+    let room = match joint_of(input.peek().what) {
+        // The last unit may stand at the end of the text, with no blank behind it.
+        Some(_) => input.bytes_left().saturating_add(1) / LEAST_UNIT,
+        None => 0,
+    };
+    with_room(alloc, room)
+}
+
+/// A comparison or a condition in parentheses, behind its NOTs, inside so many parentheses and NOTs.
 #[cycle(parser)]
 fn predicate(alloc: Global, input: &mut Input, depth: u8) -> Result<Predicate, ParseFault>
     requires { depth ≤ 64 }
     ensures led { (k : UnitK) → open_unit k ≡ depth → Leads (runs (want k)) input.old result (λ p. runs_on (follow_unit k (predicate_tree p))) input.new }
     ensures shorter { OnOk result (length input.new.rest < length input.old.rest) }
 {
+    let many = nots(input, depth)?;
     match input.peek().what {
-        What::Word(Keyword::Not) => {
-            open(input, depth)?;
-            let inner = predicate(alloc, input, depth + 1)?;
-            Ok(make::negation(alloc, inner)?)
-        }
         What::Open => {
-            open(input, depth)?;
-            let inner = cond(alloc, input, depth + 1)?;
-            closed(alloc, input, inner)
+            open(input, depth + many)?;
+            let inner = cond(alloc, input, depth + many + 1)?;
+            closed(alloc, input, many, inner)
         }
-        _ => compare(alloc, input),
+        _ => compare(alloc, input, many),
     }
 }
 
-/// What AND joins.
-#[cycle(parser)]
-fn conj(alloc: Global, input: &mut Input, depth: u8) -> Result<Conj, ParseFault>
-    requires { depth ≤ 64 }
-    ensures led { (k : ConjK) → open_conj k ≡ depth → Leads (runs (want (first_k k))) input.old result (λ c. runs_on (follow_or (conj_tree c) k)) input.new }
-    ensures shorter { OnOk result (length input.new.rest < length input.old.rest) }
-{
-    let first = predicate(alloc, input, depth)?;
-    let mut more = list_behind(alloc, &*input, What::Word(Keyword::And), LEAST_UNIT)?;
-    'ands: while input.peek().what == What::Word(Keyword::And) {
-        input.advance();
-        let next = predicate(alloc, input, depth)?;
-        more.push(next)?;
-    }
-    Ok(make::units(first, more))
-}
-
-/// A condition inside so many parentheses and NOTs.
+/// A condition inside so many parentheses and NOTs: its first unit, and those that AND and OR join to it.
 #[cycle(parser)]
 pub(crate) fn cond(alloc: Global, input: &mut Input, depth: u8) -> Result<Cond, ParseFault>
     requires { depth ≤ 64 }
     ensures led { (k : CondK) → open_cond k ≡ depth → Leads (runs (want_cond k)) input.old result (λ c. runs_on (follow_cond k (cond_tree c))) input.new }
     ensures shorter { OnOk result (length input.new.rest < length input.old.rest) }
 {
-    let first = conj(alloc, input, depth)?;
-    let mut more = list_behind(alloc, &*input, What::Word(Keyword::Or), LEAST_CONJ)?;
-    'ors: while input.peek().what == What::Word(Keyword::Or) {
+    let first = predicate(alloc, input, depth)?;
+    let mut more = units_behind(alloc, &*input)?;
+    'units: while let Some(joint) = joint_of(input.peek().what) {
         input.advance();
-        let next = conj(alloc, input, depth)?;
-        more.push(next)?;
+        let next = predicate(alloc, input, depth)?;
+        more.push(joined_by(joint, next))?;
     }
-    Ok(make::conjs(first, more))
+    Ok(make::cond(first, more.into_items(MOST_KEPT)))
 }

@@ -8,7 +8,7 @@ ghost use Rattle.sql_front.specs.View.{name_tree, item_tree, selection_tree};
 use crate::ParseFault;
 use crate::columns::{column, whole_column};
 use crate::input::Input;
-use crate::lists::list_behind;
+use crate::lists::{MOST_KEPT, list_behind};
 use crate::tree::{Item, NameAt, Selection};
 use crate::words::Aggregate;
 use sql_tokens::{Keyword, Token, What};
@@ -143,7 +143,7 @@ fn listed(alloc: Global, input: &mut Input) -> Result<Selection, ParseFault>
     while input.peek().what == What::Comma {
         more.push(next_item(input)?)?;
     }
-    Ok(Selection::Items(first, more))
+    Ok(Selection::Items(first, more.into_items(MOST_KEPT)))
 }
 
 /// All items of a select.

@@ -24,7 +24,7 @@ mod words;
 pub use fault::ParseFault;
 pub use parser::parse;
 pub use tree::{
-    Column, Cond, Conj, Item, Join, Key, KeyOf, More, NameAt, NumberAt, Predicate, Query,
+    Column, Cond, Item, Join, Joined, Key, KeyOf, More, NameAt, NumberAt, Predicate, Query,
     QueryOption, Select, Selection, Side, Table, UnionAll,
 };
 pub use words::{Aggregate, Comparison, Method, Setting};

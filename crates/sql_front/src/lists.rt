@@ -1,18 +1,57 @@
-ghost use Rattle.std.specs.Prelude.{◌≡◌, ◌<◌, [], IfOk};
+ghost use Rattle.std.specs.Prelude.{◌≡◌, ◌<◌, ◌++◌, ◌∷◌, [], IfOk, OnOk, OnErr};
 
 use crate::input::Input;
 use sql_tokens::What;
 use sqlite_items::Items;
 use std::alloc::{AllocError, Global};
+use std::marker::Model;
 
-/// What room is made for at once. A plan's lists have at most 255 items, so no longer list is ever run.
-const MOST_ROOM: usize = 256;
+/// How many places a list of small items keeps, used or not.
+pub(crate) const MOST_KEPT: usize = 256;
 
-/// An empty list with room for so many items, or for as many as are made room for at once.
-fn with_room<T>(alloc: Global, room: usize) -> Result<Items<T>, AllocError>
+/// Items that are gathered in room that was taken at once. Contracts see them as their list.
+#[derive(Drop)]
+pub(crate) struct Gathered<T> {
+    items: Vec<T>,
+}
+
+impl<T> Model for Gathered<T> {
+    ghost use Rattle.std.specs.Prelude.{List};
+
+    ghost Value = { List T };
+
+    ghost view = { λ g. g.items.items };
+}
+
+impl<T: Drop> Gathered<T> {
+    /// Adds an item at the end.
+    pub(crate) fn push(&mut self, item: T) -> Result<(), AllocError>
+        ensures ok { OnOk result (self.new ≡ self.old ++ item ∷ []) }
+        ensures err { OnErr result (self.new ≡ self.old) }
+    {
+        self.items.push(item)?;
+        Ok(())
+    }
+
+    /// All of them. Of a list with more than so many places those that are unused are given back.
+    pub(crate) fn into_items(self, kept: usize) -> Items<T>
+        ensures { result ≡ self }
+    {
+        let Gathered { mut items } = self;
+        if items.capacity() > kept {
+            items.shrink_to_fit();
+        }
+        Items::from_vec(items)
+    }
+}
+
+/// An empty list with room for so many items.
+pub(crate) fn with_room<T>(alloc: Global, room: usize) -> Result<Gathered<T>, AllocError>
     ensures { IfOk result (λ list. list ≡ []) }
 {
-    Ok(Items::from_vec(Vec::with_capacity(alloc, room.min(MOST_ROOM))?))
+    Ok(Gathered {
+        items: Vec::with_capacity(alloc, room)?,
+    })
 }
 
 /// An empty list for items that begin here, each of at least so many bytes with its separator.
@@ -20,7 +59,7 @@ pub(crate) fn list_here<T>(
     alloc: Global,
     input: &Input,
     least: usize,
-) -> Result<Items<T>, AllocError>
+) -> Result<Gathered<T>, AllocError>
     requires { 0 < least }
     ensures { IfOk result (λ list. list ≡ []) }
 {
@@ -35,14 +74,15 @@ pub(crate) fn list_behind<T>(
     input: &Input,
     separator: What,
     least: usize,
-) -> Result<Items<T>, AllocError>
+) -> Result<Gathered<T>, AllocError>
     requires { 0 < least }
     ensures { IfOk result (λ list. list ≡ []) }
 {
-    if input.peek().what == separator {
+    let room = if input.peek().what == separator {
         // The last item may stand at the end of the text, with no blank behind it.
-        with_room(alloc, input.bytes_left().saturating_add(1) / least)
+        input.bytes_left().saturating_add(1) / least
     } else {
-        Ok(Items::new(alloc))
-    }
+        0
+    };
+    with_room(alloc, room)
 }

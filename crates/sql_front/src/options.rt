@@ -9,7 +9,7 @@ ghost use Rattle.sql_tokens.specs.Tokens.{is_last};
 
 use crate::ParseFault;
 use crate::input::Input;
-use crate::lists::list_here;
+use crate::lists::{MOST_KEPT, list_here};
 use crate::numbers::number;
 use crate::tree::QueryOption;
 use crate::words::{Method, Setting, Unreserved, word_ahead};
@@ -61,7 +61,7 @@ fn options(alloc: Global, input: &mut Input) -> Result<Items<QueryOption>, Parse
             What::Comma => input.advance(),
             What::Close => {
                 input.advance();
-                return Ok(options);
+                return Ok(options.into_items(MOST_KEPT));
             }
             _ => return Err(input.refuse(None)),
         }

@@ -10,6 +10,7 @@ ghost use Rattle.sql_words.specs.Reading.{Found, Only, Refused, OnlyRefused};
 
 use crate::ParseFault;
 use crate::input::Input;
+use crate::lists::{MOST_KEPT, with_room};
 use crate::options::options_part;
 use crate::selects::{SelectPart, select};
 use crate::tables::UnionPlaces;
@@ -17,6 +18,9 @@ use crate::tail::{end_part, limit_part, order_part};
 use crate::tree::{Key, NumberAt, Query, QueryOption, Select, UnionAll};
 use sqlite_items::Items;
 use std::alloc::Global;
+
+/// The most selects behind UNION ALL, as a query has four tables at most.
+const MOST_FURTHER: usize = 3;
 
 /// The first select and those behind UNION ALL.
 type Selects = (Select, Items<UnionAll>);
@@ -79,7 +83,8 @@ fn further_selects(
     ensures led { (g : Group) → tables_group g ≡ tables
         → Leads (at_union g words) input.old result (λ more. runs_on (begin_order (more_selects g more))) input.new }
 {
-    let mut more = Items::new(alloc);
+    let room = if words.is_some() { MOST_FURTHER } else { 0 };
+    let mut more = with_room(alloc, room)?;
     let mut count = tables;
     let mut ahead = words;
     while let Some(places) = ahead {
@@ -92,7 +97,7 @@ fn further_selects(
         count = tables;
         ahead = words;
     }
-    Ok(more)
+    Ok(more.into_items(MOST_KEPT))
 }
 
 /// All selects of a query.

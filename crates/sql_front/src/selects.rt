@@ -10,7 +10,7 @@ use crate::columns::whole_column;
 use crate::conditions::cond;
 use crate::input::Input;
 use crate::items::selection;
-use crate::lists::list_here;
+use crate::lists::{MOST_KEPT, list_here};
 use crate::tables::{FromPart, UnionPlaces, all_word, from_part};
 use crate::tree::{Column, Cond, Select, Selection};
 use crate::words::{Unreserved, word_ahead};
@@ -127,7 +127,7 @@ fn columns(alloc: Global, input: &mut Input) -> Result<Items<Column>, ParseFault
         columns.push(whole_column(input)?)?;
         match input.peek().what {
             What::Comma => input.advance(),
-            _ => return Ok(columns),
+            _ => return Ok(columns.into_items(MOST_KEPT)),
         }
     }
 }

@@ -10,6 +10,7 @@ ghost use Rattle.sql_front.specs.View.{name_tree, table_tree, join_tree, cond_tr
 use crate::ParseFault;
 use crate::conditions::cond;
 use crate::input::Input;
+use crate::lists::{MOST_KEPT, with_room};
 use crate::tree::{Cond, Join, More, NameAt, Table};
 use crate::words::{Unreserved, word_ahead, word_of};
 use sql_tokens::{Keyword, Name, What};
@@ -17,6 +18,9 @@ use std::alloc::Global;
 
 /// The most tables in a query.
 const MOST_TABLES: u8 = 4;
+
+/// The most tables behind the first.
+const MOST_FURTHER: usize = 3;
 
 /// The places of UNION and ALL.
 pub(crate) type UnionPlaces = (u32, u32);
@@ -343,14 +347,18 @@ pub(crate) fn from_part(
     ensures grows { IfOk result (λ f. tables < f.tables) }
 {
     let (table, mut ahead) = first_table(input, tables)?;
-    let mut more = sqlite_items::Items::new(alloc);
+    let room = match ahead {
+        Ahead::More(_) => MOST_FURTHER,
+        Ahead::End(_) => 0,
+    };
+    let mut more = with_room(alloc, room)?;
     let mut count = tables + 1;
     loop {
         match ahead {
             Ahead::End(union) => {
                 return Ok(FromPart {
                     table,
-                    more,
+                    more: more.into_items(MOST_KEPT),
                     tables: count,
                     union,
                 });

@@ -7,7 +7,7 @@ ghost use Rattle.sql_front.specs.View.{key_of_tree, key_tree, order_tree, limit_
 use crate::ParseFault;
 use crate::columns::column;
 use crate::input::Input;
-use crate::lists::list_here;
+use crate::lists::{MOST_KEPT, list_here};
 use crate::numbers::number;
 use crate::tree::{Key, KeyOf, NameAt, NumberAt};
 use sql_tokens::{Keyword, What};
@@ -54,7 +54,7 @@ fn keys(alloc: Global, input: &mut Input) -> Result<Items<Key>, ParseFault>
         keys.push(key(input)?)?;
         match input.peek().what {
             What::Comma => input.advance(),
-            _ => return Ok(keys),
+            _ => return Ok(keys.into_items(MOST_KEPT)),
         }
     }
 }

@@ -33,30 +33,27 @@ pub enum Side {
     Text(Bytes),
 }
 
-/// A part of a condition that AND and OR join. A run of NOTs is one value, with their number. A comparison has the place of its
-/// operator.
+/// A unit of a condition behind so many NOTs: a condition in parentheses, or a comparison with the place of its operator.
 #[cycle(tree)]
 #[derive(Debug, Drop)]
 pub enum Predicate {
-    Not(u8, Boxed<Predicate>),
-    Group(Boxed<Cond>),
-    Compare(Side, Comparison, u32, Side),
+    Compare(u8, Side, Comparison, u32, Side),
+    Group(u8, Boxed<Cond>),
 }
 
-/// One unit, or several that AND joins: the first and the others.
+/// A further unit, with the word that joins it to those before it. AND binds tighter than OR.
 #[cycle(tree)]
 #[derive(Debug, Drop)]
-pub enum Conj {
-    One(Predicate),
-    Units(Predicate, Items<Predicate>),
+pub enum Joined {
+    And(Predicate),
+    Or(Predicate),
 }
 
-/// One conjunction, or several that OR joins: the first and the others.
+/// A condition: its first unit, and the others in the order of the text.
 #[cycle(tree)]
 #[derive(Debug, Drop)]
 pub enum Cond {
-    Only(Conj),
-    Conjs(Conj, Items<Conj>),
+    Units(Predicate, Items<Joined>),
 }
 
 /// What a query gives of each row or group. COUNT has the place of its `*`, SUM, MIN and MAX that of their word.

@@ -1,5 +1,5 @@
 use crate::{
-    Column, Comparison, Cond, Conj, Item, Join, Key, KeyOf, More, NameAt, ParseFault, Predicate,
+    Column, Comparison, Cond, Item, Join, Joined, Key, KeyOf, More, NameAt, ParseFault, Predicate,
     Query, QueryOption, Selection, Setting, Side, Table, parse,
 };
 use std::alloc::{AllocError, Global};
@@ -21,10 +21,7 @@ fn query_of(rt: &impl Abort, alloc: Global, text: &str) -> Result<Query, Fail> {
 /// Whether OR joins one comparison and two that AND joins.
 fn is_one_or_two(condition: &Option<Cond>) -> bool {
     match condition {
-        Some(Cond::Conjs(Conj::One(_), more)) => match more.as_slice() {
-            [Conj::Units(_, units)] => units.len() == 1,
-            _ => false,
-        },
+        Some(Cond::Units(_, more)) => { matches!(more.as_slice(), [Joined::Or(_), Joined::And(_)]) }
         _ => false,
     }
 }
@@ -32,7 +29,9 @@ fn is_one_or_two(condition: &Option<Cond>) -> bool {
 /// Whether AND joins one comparison and what stands in parentheses.
 fn is_one_and_group(condition: &Option<Cond>) -> bool {
     match condition {
-        Some(Cond::Only(Conj::Units(_, more))) => matches!(more.as_slice(), [Predicate::Group(_)]),
+        Some(Cond::Units(_, more)) => {
+            matches!(more.as_slice(), [Joined::And(Predicate::Group(0, _))])
+        }
         _ => false,
     }
 }
@@ -62,11 +61,11 @@ fn parentheses_are_kept(rt: HostRuntime) -> Result<(), Fail> {
     Ok(())
 }
 
-/// Whether three NOTs stand before a comparison.
-fn is_negated_thrice(condition: &Option<Cond>) -> bool {
+/// Whether so many NOTs stand before a comparison.
+fn is_negated_so_often(condition: &Option<Cond>, often: u8) -> bool {
     match condition {
-        Some(Cond::Only(Conj::One(Predicate::Not(3, inner)))) => {
-            matches!(inner.get(), Predicate::Compare(_, _, _, _))
+        Some(Cond::Units(Predicate::Compare(nots, _, _, _, _), more)) => {
+            *nots == often && more.is_empty()
         }
         _ => false,
     }
@@ -75,7 +74,113 @@ fn is_negated_thrice(condition: &Option<Cond>) -> bool {
 #[test]
 fn nots_are_counted(rt: HostRuntime) -> Result<(), Fail> {
     let query = query_of(&rt, rt.alloc(), "SELECT * FROM a WHERE NOT NOT NOT a = b")?;
-    assert!(rt; is_negated_thrice(&query.first.condition), "three NOTs");
+    assert!(rt;
+        is_negated_so_often(&query.first.condition, 3),
+        "three NOTs"
+    );
+    Ok(())
+}
+
+#[test]
+fn sixty_four_nots_are_counted(rt: HostRuntime) -> Result<(), Fail> {
+    let nots = "NOT ".repeat(rt.alloc(), 64)?;
+    let text = format!(in rt.alloc(); "SELECT * FROM a WHERE {nots}a = b")?;
+    let query = query_of(&rt, rt.alloc(), text.as_str())?;
+    assert!(rt; is_negated_so_often(&query.first.condition, 64), "64 NOTs");
+    Ok(())
+}
+
+/// Whether two NOTs stand before a condition in parentheses, of two comparisons that OR joins.
+fn is_group_negated_twice(condition: &Option<Cond>) -> bool {
+    match condition {
+        Some(Cond::Units(Predicate::Group(2, inner), more)) => more.is_empty()
+            && is_one_or_one(inner.get()),
+        _ => false,
+    }
+}
+
+/// Whether OR joins two comparisons.
+fn is_one_or_one(condition: &Cond) -> bool {
+    match condition {
+        Cond::Units(Predicate::Compare(0, _, _, _, _), more) => {
+            matches!(
+                more.as_slice(),
+                [Joined::Or(Predicate::Compare(0, _, _, _, _))]
+            )
+        }
+        _ => false,
+    }
+}
+
+#[test]
+fn nots_before_a_group_are_counted(rt: HostRuntime) -> Result<(), Fail> {
+    let query = query_of(
+        &rt,
+        rt.alloc(),
+        "SELECT * FROM a WHERE NOT NOT (x = 1 OR y = 2)",
+    )?;
+    assert!(rt;
+        is_group_negated_twice(&query.first.condition),
+        "NOT NOT and a group"
+    );
+    Ok(())
+}
+
+/// Whether AND joins two comparisons and OR a third.
+fn is_two_or_one(condition: &Option<Cond>) -> bool {
+    match condition {
+        Some(Cond::Units(_, more)) => { matches!(more.as_slice(), [Joined::And(_), Joined::Or(_)]) }
+        _ => false,
+    }
+}
+
+#[test]
+fn or_may_stand_behind_and(rt: HostRuntime) -> Result<(), Fail> {
+    let query = query_of(
+        &rt,
+        rt.alloc(),
+        "SELECT * FROM a WHERE x = 1 AND y = 2 OR z = 3",
+    )?;
+    assert!(rt; is_two_or_one(&query.first.condition), "OR of two and one");
+    Ok(())
+}
+
+/// Whether OR joins a group and AND a comparison behind it.
+fn is_or_group_and_one(condition: &Option<Cond>) -> bool {
+    match condition {
+        Some(Cond::Units(_, more)) => match more.as_slice() {
+            [
+                Joined::Or(Predicate::Group(0, inner)),
+                Joined::And(Predicate::Compare(0, _, _, _, _)),
+            ] => is_one_and_negated_group(inner.get()),
+            _ => false,
+        },
+        _ => false,
+    }
+}
+
+/// Whether AND joins a comparison and a group behind NOT, of two comparisons that OR joins.
+fn is_one_and_negated_group(condition: &Cond) -> bool {
+    match condition {
+        Cond::Units(Predicate::Compare(0, _, _, _, _), more) => match more.as_slice() {
+            [Joined::And(Predicate::Group(1, inner))] => is_one_or_one(inner.get()),
+            _ => false,
+        },
+        _ => false,
+    }
+}
+
+#[test]
+fn groups_stand_in_groups(rt: HostRuntime) -> Result<(), Fail> {
+    let query = query_of(
+        &rt,
+        rt.alloc(),
+        "SELECT * FROM a WHERE x = 1 OR (y = 2 AND NOT (z = 3 OR w = 4)) AND v = 5",
+    )?;
+    assert!(rt;
+        is_or_group_and_one(&query.first.condition),
+        "groups in groups"
+    );
     Ok(())
 }
 
@@ -97,12 +202,11 @@ fn has_300_items(items: &Selection) -> bool {
 /// Whether AND joins 300 units.
 fn has_300_units(condition: &Option<Cond>) -> bool {
     match condition {
-        Some(Cond::Only(Conj::Units(_, more))) => more.len() == 299,
+        Some(Cond::Units(_, more)) => more.len() == 299,
         _ => false,
     }
 }
 
-// Their room isn't made at once.
 #[test]
 fn long_lists_are_read_wholly(rt: HostRuntime) -> Result<(), Fail> {
     let text = long_text(rt.alloc())?;
@@ -144,18 +248,21 @@ fn tables_have_their_places(rt: HostRuntime) -> Result<(), Fail> {
 fn compares_with_text(condition: &Option<Cond>) -> bool {
     match condition {
         Some(
-            Cond::Only(
-                Conj::One(
-                    Predicate::Compare(
-                        Side::Column(Column::Dotted(a, x)),
-                        Comparison::AtMost,
-                        27,
-                        Side::Text(text),
-                    ),
+            Cond::Units(
+                Predicate::Compare(
+                    0,
+                    Side::Column(Column::Dotted(a, x)),
+                    Comparison::AtMost,
+                    27,
+                    Side::Text(text),
                 ),
+                more,
             ),
         ) => {
-            stands_at(a, b"a", 23) && stands_at(x, b"x", 25) && text.as_slice() == b"p'q".as_slice()
+            more.is_empty()
+                && stands_at(a, b"a", 23)
+                && stands_at(x, b"x", 25)
+                && text.as_slice() == b"p'q".as_slice()
         }
         _ => false,
     }

@@ -1,3 +1,13 @@
-pub mod Conditions
+pub mod AnswerLemmas
+pub mod Bags
+pub mod ConditionLaws
+pub mod ConditionViews
 pub mod Equal
-pub mod Joins
+pub mod GroupSteps
+pub mod JoinLaws
+pub mod Joining
+pub mod Loops
+pub mod OrderLaws
+pub mod Pushing
+pub mod RowSteps
+pub mod Sums

@@ -1,2 +1,4 @@
+pub mod Fits
 pub mod Meaning
 pub mod Rows
+pub mod Sides

@@ -3,7 +3,7 @@
 use Rattle.std.specs.Prelude.{◌≡◌, ℕ, suc, ℤ, pos, ◌+ℤ◌, Bool, true, false, not, ◌&&◌, ◌||◌, if◌then◌else◌, List, [], ◌∷◌, ◌++◌, length, map, filter, take, Option, Some, None}
 use Rattle.std.specs.List.{flat_map, list_any, slice_index_or}
 use Rattle.std.specs.List.Sorted.{IsPermutation, IsSorted}
-use Rattle.std.specs.Ordering.{ordering_reverse, ordering_then}
+use Rattle.std.specs.Ordering.{is_lt, ordering_reverse, ordering_then}
 use Rattle.std.specs.declared.cmp.Ordering.{Ordering}
 use Rattle.std.specs.declared.cmp.Ordering.TheVariants as order
 use Rattle.qsr_value.specs.Ordered.{compare_values}
@@ -22,7 +22,7 @@ use Rattle.sql_front.specs.declared.words.Aggregate.{Aggregate}
 use Rattle.sql_front.specs.declared.words.Aggregate.TheVariants as aggregate
 use Rattle.sql_front.specs.declared.words.Comparison.{Comparison}
 use Rattle.sql_front.specs.declared.words.Comparison.TheVariants as op
-use Rattle.qsr_lists.specs.Lists.{firsts, groups}
+use Rattle.qsr_lists.specs.Lists.{firsts, groups, sorted}
 use Rattle.sql_mean.specs.Rows.{Row, same_row}
 
 -- the rows of the tables that there are, in order
@@ -221,3 +221,11 @@ pub record IsAnswer (tables : Lists) (q : Bound) (rows : List Row) : Type 0 wher
   pub same : IsPermutation (bag tables q) arranged
   pub rises : IsSorted (compare_rows q.order_by) arranged
   pub first : rows ≡ limited q.limit arranged
+
+-- whether a row stands before another under ORDER BY
+abbrev pub is_before : List BoundKey → Row → Row → Bool
+is_before keys a b = is_lt (compare_rows keys a b)
+
+-- The answer whose rows stand as in the bag where no key tells them apart.
+abbrev pub stable_answer : Lists → Bound → List Row
+stable_answer tables q = limited q.limit (sorted (is_before q.order_by) (bag tables q))

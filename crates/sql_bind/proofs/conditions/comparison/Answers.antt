@@ -1,7 +1,7 @@
 use Rattle.std.proofs.Common.{ap, ◌∙◌, Bool}
 use Rattle.sql_bind.specs.Checks.{refuse_if}
 use Rattle.sql_bind.specs.Names.{TypeClash}
-use Rattle.sql_bind.proofs.ConditionLemmas.{sides_told}
+use Rattle.sql_bind.proofs.ComparisonLemmas.{sides_told}
 use Rattle.sql_bind.proofs.conditions.comparison.Goals as goal
 
 pub returns-then-is_text_operand-clause-checks : goal.returns-then-is_text_operand-clause-checks

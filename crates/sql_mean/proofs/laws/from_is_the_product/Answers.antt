@@ -1,4 +1,4 @@
-use Rattle.sql_mean.proofs.Joins.{from_is_the_product}
+use Rattle.sql_mean.proofs.JoinLaws.{from_is_the_product}
 use Rattle.sql_mean.proofs.laws.from_is_the_product.Goals as goal
 
 pub returns : goal.returns
