@@ -4,6 +4,8 @@
 #[cfg(test)]
 mod example_tests;
 #[cfg(test)]
+mod explain_tests;
+#[cfg(test)]
 mod fault_tests;
 #[cfg(test)]
 mod format_tests;

@@ -3,6 +3,7 @@ pub mod BufferLemmas
 pub mod CauseLemmas
 pub mod CrashLemmas
 pub mod CreateLemmas
+pub mod ExplainLemmas
 pub mod FormatLemmas
 pub mod LineLemmas
 pub mod LoadLemmas
@@ -10,6 +11,7 @@ pub mod LoadOpening
 pub mod LoadedLemmas
 pub mod NameLemmas
 pub mod NumberLemmas
+pub mod OneLineLemmas
 pub mod ProgressLemmas
 pub mod RowLemmas
 pub mod RowsReadLemmas

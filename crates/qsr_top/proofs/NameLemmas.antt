@@ -17,7 +17,7 @@ use Rattle.page_store.specs.declared.pages.Sizes.{Sizes}
 use Rattle.qsr_top.specs.Number.{count_of}
 use Rattle.qsr_top.specs.declared.command.Command.{Command}
 use Rattle.qsr_top.specs.declared.command.Command.TheVariants.{Create, Format, Load}
-use Rattle.qsr_top.specs.Words.{are_columns, column_before, column_kind, columns_of, command_of, create_of, format_of, load_of, named_columns, named_table, script_of, sizes_of, is_name, is_name_byte, kind_of, text_kind}
+use Rattle.qsr_top.specs.Words.{are_columns, column_before, column_kind, columns_of, command_of, create_of, explain_of, format_of, load_of, named_columns, named_table, script_of, sizes_of, is_name, is_name_byte, kind_of, text_kind}
 
 -- both of two tests
 pub both : (a b : Bool) → (a && b) ≡ true → (a ≡ true) × (b ≡ true)
@@ -158,6 +158,30 @@ load_long : (file command : List ℕ) (words : List (List ℕ)) → load_of word
 load_long file command [] is = cc
 load_long file command (name ∷ words) is = omega arith
 
+no_explain : (words : List (List ℕ)) → (explain_of words ≡ Some Create → ⊥) × (explain_of words ≡ Some Load → ⊥)
+no_explain [] = (λ is. cc, λ is. cc)
+no_explain (word ∷ words) = (λ is. cc, λ is. cc)
+
+-- the commands behind `format`, behind `create`, behind `load`
+abbrev behind_load : List ℕ → List (List ℕ) → Option Command
+behind_load command words = if pointwise nat_eq command (codes "explain") then explain_of words else None
+
+abbrev behind_create : List ℕ → List (List ℕ) → Option Command
+behind_create command words = if pointwise nat_eq command (codes "load") then load_of words else behind_load command words
+
+abbrev behind_format : List ℕ → List (List ℕ) → Option Command
+behind_format command words = if pointwise nat_eq command (codes "create") then create_of words else behind_create command words
+
+abbrev behind_script : List ℕ → List (List ℕ) → Option Command
+behind_script command words = if pointwise nat_eq command (codes "format") then format_of words else behind_format command words
+
+-- `explain` and no command
+not_behind_load : (command : List ℕ) (words : List (List ℕ)) → (behind_load command words ≡ Some Create → ⊥) × (behind_load command words ≡ Some Load → ⊥)
+not_behind_load command words = (
+  λ is. ⊎_elim (no_explain words).0 (λ none. cc) (picks (pointwise nat_eq command (codes "explain")) (explain_of words) None Create is),
+  λ is. ⊎_elim (no_explain words).1 (λ none. cc) (picks (pointwise nat_eq command (codes "explain")) (explain_of words) None Load is),
+)
+
 pub create_words : (words : List (List ℕ)) → command_of words ≡ Some Create → NamesTable words
 create_words [] is = cc
 create_words (file ∷ []) is = cc
@@ -165,13 +189,11 @@ create_words (file ∷ command ∷ words) is =
     ⊎_elim (λ script. absurd ((no_script words).0 script))
     (λ others. ⊎_elim (λ format. absurd ((no_format words).0 format))
     (λ others. ⊎_elim (create_parts file command words)
-    (λ others. ⊎_elim (λ load. absurd (not_load words load)) (λ none. cc) (picks (pointwise nat_eq command (codes "load")) (load_of words) None Create others))
-    (picks (pointwise nat_eq command (codes "create")) (create_of words) (if pointwise nat_eq command (codes "load") then load_of words else None) Create others))
-    (picks (pointwise nat_eq command (codes "format")) (format_of words)
-    (if pointwise nat_eq command (codes "create") then create_of words else (if pointwise nat_eq command (codes "load") then load_of words else None)) Create others))
-    (picks (pointwise nat_eq command (codes "script")) (script_of words)
-    (if pointwise nat_eq command (codes "format") then format_of words
-    else (if pointwise nat_eq command (codes "create") then create_of words else (if pointwise nat_eq command (codes "load") then load_of words else None))) Create is)
+    (λ others. ⊎_elim (λ load. absurd (not_load words load)) (λ others. absurd ((not_behind_load command words).0 others))
+    (picks (pointwise nat_eq command (codes "load")) (load_of words) (behind_load command words) Create others))
+    (picks (pointwise nat_eq command (codes "create")) (create_of words) (behind_create command words) Create others))
+    (picks (pointwise nat_eq command (codes "format")) (format_of words) (behind_format command words) Create others))
+    (picks (pointwise nat_eq command (codes "script")) (script_of words) (behind_script command words) Create is)
 
 pub load_words : (words : List (List ℕ)) → command_of words ≡ Some Load → 3 ≤ length words
 load_words [] is = cc
@@ -180,13 +202,11 @@ load_words (file ∷ command ∷ words) is =
     ⊎_elim (λ script. absurd ((no_script words).1 script))
     (λ others. ⊎_elim (λ format. absurd ((no_format words).1 format))
     (λ others. ⊎_elim (λ create. absurd (not_create words create))
-    (λ others. ⊎_elim (load_long file command words) (λ none. cc) (picks (pointwise nat_eq command (codes "load")) (load_of words) None Load others))
-    (picks (pointwise nat_eq command (codes "create")) (create_of words) (if pointwise nat_eq command (codes "load") then load_of words else None) Load others))
-    (picks (pointwise nat_eq command (codes "format")) (format_of words)
-    (if pointwise nat_eq command (codes "create") then create_of words else (if pointwise nat_eq command (codes "load") then load_of words else None)) Load others))
-    (picks (pointwise nat_eq command (codes "script")) (script_of words)
-    (if pointwise nat_eq command (codes "format") then format_of words
-    else (if pointwise nat_eq command (codes "create") then create_of words else (if pointwise nat_eq command (codes "load") then load_of words else None))) Load is)
+    (λ others. ⊎_elim (load_long file command words) (λ others. absurd ((not_behind_load command words).1 others))
+    (picks (pointwise nat_eq command (codes "load")) (load_of words) (behind_load command words) Load others))
+    (picks (pointwise nat_eq command (codes "create")) (create_of words) (behind_create command words) Load others))
+    (picks (pointwise nat_eq command (codes "format")) (format_of words) (behind_format command words) Load others))
+    (picks (pointwise nat_eq command (codes "script")) (script_of words) (behind_script command words) Load is)
 
 -- the words of the program are texts, and their names and columns those of the words
 pub third : {X : Type 0} (f : X → List ℕ) (xs : List X) (x : X) → 3 ≤ length xs → x ≡ slice_index_or xs 2 x → f x ≡ named_table (map f xs)

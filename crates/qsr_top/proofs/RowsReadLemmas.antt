@@ -104,7 +104,7 @@ joined-lines_of (byte ∷ bytes) = elim (cases_eq byte 10) [
 ]
 
 -- the last line, which no LF ends, is all that there is
-last_is_all : (bytes text : List ℕ) → lines_of bytes ≡ unended text ∷ [] → bytes ≡ text
+pub last_is_all : (bytes text : List ℕ) → lines_of bytes ≡ unended text ∷ [] → bytes ≡ text
 unfolding joined line_bytes
 last_is_all bytes text is = sym (joined-lines_of bytes) ∙ ap joined is ∙ append-nil (text ++ []) ∙ append-nil text
 
@@ -117,7 +117,7 @@ ReadsRows-last columns number held now (Some left) row none is next =
     let more : left ≡ [] = append_cancel_left held left [] (last_is_all (held ++ left) held next ∙ sym (append-nil held)) in
     rw (next, is, none, more) refl
 
-both_empty : (held left : List ℕ) → held ++ left ≡ [] → left ≡ []
+pub both_empty : (held left : List ℕ) → held ++ left ≡ [] → left ≡ []
 both_empty [] left none = none
 both_empty (byte ∷ held) left none = cc
 

@@ -1,6 +1,7 @@
 pub mod Answers
 pub mod Creating
 pub mod Ends
+pub mod Explaining
 pub mod Formats
 pub mod Grammar
 pub mod Lines

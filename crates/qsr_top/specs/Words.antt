@@ -10,7 +10,7 @@ use Rattle.qsr_value.specs.declared.kind.ColKind.{ColKind}
 use Rattle.qsr_value.specs.declared.kind.ColKind.TheVariants.{Int, Text}
 use Rattle.qsr_value.specs.declared.schema.Column.{Column}
 use Rattle.qsr_top.specs.declared.command.Command.{Command}
-use Rattle.qsr_top.specs.declared.command.Command.TheVariants.{Script, Format, Create, Load}
+use Rattle.qsr_top.specs.declared.command.Command.TheVariants.{Script, Format, Create, Load, Explain}
 use Rattle.qsr_top.specs.declared.command.TheConstants.{MAX_COLUMNS, MAX_PAGES, MAX_TEXT}
 use Rattle.qsr_top.specs.Number.{count_of}
 
@@ -88,6 +88,11 @@ load_of [] = None
 load_of (name ∷ []) = if is_name name then Some Load else None
 load_of (name ∷ word ∷ words) = None
 
+-- `explain`
+abbrev pub explain_of : List (List ℕ) → Option Command
+explain_of [] = Some Explain
+explain_of (word ∷ words) = None
+
 -- the table that `create` and `load` name, and the columns that `create` names, behind FILE and the command
 abbrev pub named_table : List (List ℕ) → List ℕ
 named_table words = slice_index_or words 2 []
@@ -101,7 +106,8 @@ command_with command arguments =
     if pointwise nat_eq command (codes "script") then script_of arguments
     else (if pointwise nat_eq command (codes "format") then format_of arguments
     else (if pointwise nat_eq command (codes "create") then create_of arguments
-    else (if pointwise nat_eq command (codes "load") then load_of arguments else None)))
+    else (if pointwise nat_eq command (codes "load") then load_of arguments
+    else (if pointwise nat_eq command (codes "explain") then explain_of arguments else None))))
 
 -- the command that the words name; none where they are not of the table of commands
 abbrev pub command_of : List (List ℕ) → Option Command
@@ -115,3 +121,4 @@ IsCommand Script = ⊤
 IsCommand (Format sizes) = AreSizes sizes
 IsCommand Create = ⊤
 IsCommand Load = ⊤
+IsCommand Explain = ⊤

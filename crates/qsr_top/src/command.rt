@@ -4,7 +4,7 @@ ghost use Rattle.std.specs.List.{list_all};
 ghost use Rattle.std.specs.Option.{option_map};
 ghost use Rattle.qsr_value.specs.declared.schema.Column.{Column as ColumnData};
 ghost use Rattle.qsr_top.specs.declared.command.TheConstants.{MAX_COLUMNS, MAX_PAGES};
-ghost use Rattle.qsr_top.specs.Words.{IsCommand, are_columns, column_kind, columns_of, command_of, command_with, create_of, format_of, is_name, is_name_byte, kind_of, load_of, pages_of, script_of, text_kind};
+ghost use Rattle.qsr_top.specs.Words.{IsCommand, are_columns, column_kind, columns_of, command_of, command_with, create_of, explain_of, format_of, is_name, is_name_byte, kind_of, load_of, pages_of, script_of, text_kind};
 
 use crate::number::count_of;
 use page_store::Sizes;
@@ -34,6 +34,8 @@ pub enum Command {
     Create,
     /// Adds the rows of the input to the table of the name that follows.
     Load,
+    /// Says what comes of the query that the input is.
+    Explain,
 }
 
 /// The command that the words name: FILE, which is not read here, then the command and what it takes.
@@ -57,6 +59,7 @@ fn command_with(command: &str, arguments: &[String]) -> Option<Command>
         "format" => format_of(arguments),
         "create" => create_of(arguments),
         "load" => load_of(arguments),
+        "explain" => explain_of(arguments),
         _ => None,
     }
 }
@@ -118,6 +121,17 @@ fn load_of(arguments: &[String]) -> Option<Command>
 {
     match arguments {
         [name] if is_name(name.as_str()) => Some(Command::Load),
+        _ => None,
+    }
+}
+
+/// `explain`, which takes nothing.
+fn explain_of(arguments: &[String]) -> Option<Command>
+    ensures names { result ≡ explain_of (map string_bytes arguments.now) }
+    ensures numbers { IfSome result IsCommand }
+{
+    match arguments {
+        [] => Some(Command::Explain),
         _ => None,
     }
 }

@@ -4,11 +4,14 @@
 mod command;
 mod creates;
 mod end;
+mod explains;
 mod formats;
 mod line_buffer;
 mod loads;
 mod next_line;
 mod number;
+mod one_line;
+mod query_answer;
 mod replies;
 mod reply;
 mod script;

@@ -377,7 +377,10 @@ fn row_of(alloc: Global, schema: &Schema, served: u32, text: &[u8]) -> Result<Ro
 }
 
 /// The next line: the one that the held input tells, or else what is read.
-fn next_line<S: Source>(lines: &mut LineBuffer, source: &mut S) -> Result<NextLine, Failed>
+pub(crate) fn next_line<S: Source>(
+    lines: &mut LineBuffer,
+    source: &mut S,
+) -> Result<NextLine, Failed>
     ensures held { IfOk result (λ next. IsHeld next lines.new) }
     ensures found { IfOk result (λ next. IsNextTold next lines.new (S.left source.new)) }
     ensures same { Keeps (prepend_known lines.old (S.left source.old)) (prepend_known lines.new (S.left source.new)) }

@@ -102,11 +102,29 @@ pub fn say<K: Sink>(text: Result<String, AllocError>, told: End, sink: &mut K) -
     }
 }
 
+/// Tells a line and its end, or that there was no memory for the line.
+pub fn say_line<K: Sink>(line: Result<Vec<u8>, AllocError>, told: End, sink: &mut K) -> End
+    ensures ok { IfOk line (λ line. IsTold line.items told result (K.given sink.old) (K.given sink.new) (K.faults_of sink.old) (K.faults_of sink.new)) }
+    ensures err { OnErr line (IsTold (end_text End.NoMemory) End.NoMemory result (K.given sink.old) (K.given sink.new) (K.faults_of sink.old) (K.faults_of sink.new)) }
+{
+    match line {
+        Ok(line) => tell_line(&line, told, sink),
+        Err(AllocError) => tell(End::NoMemory.text(), End::NoMemory, sink),
+    }
+}
+
 /// Tells a text and its end.
 pub fn tell<K: Sink>(text: &str, told: End, sink: &mut K) -> End
     ensures { IsTold text.now told result (K.given sink.old) (K.given sink.new) (K.faults_of sink.old) (K.faults_of sink.new) }
 {
-    match put_all(sink, text.as_bytes()) {
+    tell_line(text.as_bytes(), told, sink)
+}
+
+/// Tells the bytes of a text and its end.
+fn tell_line<K: Sink>(line: &[u8], told: End, sink: &mut K) -> End
+    ensures { IsTold line.now told result (K.given sink.old) (K.given sink.new) (K.faults_of sink.old) (K.faults_of sink.new) }
+{
+    match put_all(sink, line) {
         Ok(()) => told,
         Err(Failed) => End::SinkFault,
     }

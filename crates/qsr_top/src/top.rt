@@ -1,7 +1,7 @@
 ghost use Rattle.std.specs.Prelude.{◌≡◌, ◌⊎◌, ◌<◌, ◌≤◌, ℕ, List, None, Some, map};
 ghost use Rattle.std.specs.String.{string_bytes};
 ghost use Rattle.qsr_value.specs.Causes.{RoseByOne};
-ghost use Rattle.disk_model.specs.View.{After, LeavesOnly};
+ghost use Rattle.disk_model.specs.View.{After, EachImage, LeavesOnly, Stays};
 ghost use Rattle.page_store.specs.Format.{IsOldNoneOrNew};
 ghost use Rattle.page_store.specs.Store.{contents_view};
 ghost use Rattle.page_store.specs.declared.pages.Sizes.{Sizes};
@@ -9,6 +9,7 @@ ghost use Rattle.qsr_value.specs.declared.schema.Column.{Column};
 ghost use Rattle.table_file.specs.Tables.{AreTables, OnlyTables, Tables, with_table};
 ghost use Rattle.qsr_top.specs.Creating.{CreateRan};
 ghost use Rattle.qsr_top.specs.Ends.{status_of};
+ghost use Rattle.qsr_top.specs.Explaining.{ExplainRan};
 ghost use Rattle.qsr_top.specs.Formats.{Formatted, bytes_needed};
 ghost use Rattle.qsr_top.specs.Loading.{LoadRan, StandsLoaded};
 ghost use Rattle.qsr_top.specs.Run.{Ran};
@@ -18,7 +19,7 @@ ghost use Rattle.qsr_top.specs.Words.{command_of, named_columns, named_table};
 
 use crate::command::{Command, command_of};
 use crate::end::End;
-use crate::{creates, formats, loads, script};
+use crate::{creates, explains, formats, loads, script};
 use disk_model::Disk;
 use qsr_io::{Sink, Source, put_all};
 use std::alloc::Global;
@@ -96,6 +97,17 @@ pub fn qsr_run<D: Disk, S: Source, K: Sink>(
         → AreTables sizes s → StandsFor (D.size_of disk.old) sizes s (D.view disk.old) → (D.view disk.old).honest
         → LeavesOnly (contents_view sizes (D.view disk.old)) (contents_view sizes (D.view disk.new)) (After OnlyTables (contents_view sizes (D.view disk.old))) }
 
+    // `explain` on a disk that stands for some tables answers the one line of the input: that it is no query, in the way in
+    // which it is none; that the query is refused over these tables, by the first refusal; or that it isn't, and no plan is
+    // made. It is a bad line exactly where the input isn't one line of UTF-8. The disk is only read.
+    ensures explain { command_of (map string_bytes words.now) ≡ Some Command.Explain
+        → (end : End) × (result ≡ status_of end) × ExplainRan (D.size_of disk.old) (S.left input.old) (S.left input.new) (D.view disk.old)
+        (K.given out.old) (K.given out.new) (D.faults_of disk.old) (D.faults_of disk.new) (S.faults_of input.old) (S.faults_of input.new) (K.faults_of out.old) (K.faults_of out.new) end }
+    ensures explain_disk { (sizes : Sizes) → command_of (map string_bytes words.now) ≡ Some Command.Explain
+        → EachImage (contents_view sizes (D.view disk.old)) (λ m. m.head ≡ Some sizes) → (D.view disk.old).honest
+        → Stays (contents_view sizes (D.view disk.old)) (contents_view sizes (D.view disk.new)) }
+    ensures explain_writes { command_of (map string_bytes words.now) ≡ Some Command.Explain → D.writes_of disk.new ≡ D.writes_of disk.old }
+
     // A fault of the disk, the source or the sink is answered only where that count rose, by one. None is passed over:
     // where a count rose its status is answered, or that of the sink, where the sink has failed as well.
     ensures disk_fault { result ≡ status_of End.DiskFault → RoseByOne (D.faults_of disk.old) (D.faults_of disk.new) }
@@ -116,6 +128,7 @@ pub fn qsr_run<D: Disk, S: Source, K: Sink>(
         Some(Command::Format { sizes }) => formats::run(alloc, sizes, disk, out).status(),
         Some(Command::Create) => creates::run(alloc, words, disk, out).status(),
         Some(Command::Load) => loads::run_named(alloc, words, disk, input, out).status(),
+        Some(Command::Explain) => explains::run(alloc, disk, input, out).status(),
         None => say_end(End::Usage, out),
     }
 }
