@@ -1,5 +1,5 @@
 -- The bags of selects one behind the other, along a loop.
-use Rattle.std.proofs.Common.{◌≡◌, subst, sym, ap, ◌∙◌, ℕ, ◌+◌, ◌<◌, List, ◌++◌, length, drop, get_or, map}
+use Rattle.std.proofs.Common.{◌≡◌, subst, sym, ap, ◌∙◌, ℕ, ◌<◌, List, length, get_or, map}
 use Rattle.std.specs.List.{All, flat_map}
 use Rattle.std.proofs.lemmas.List.{get_or-map, length-map}
 use Rattle.sql_bind.specs.View.{select_view}
@@ -7,15 +7,10 @@ use Rattle.sql_bind.specs.declared.bound.BoundSelect.{BoundSelect}
 use Rattle.sql_mean.specs.Fits.{SelectFits}
 use Rattle.sql_mean.specs.Meaning.{Lists, select_bag}
 use Rattle.sql_mean.specs.Rows.{Row}
-use Rattle.qsr_lists.proofs.Walking.{drop_next}
 
 -- the bags of these selects
 abbrev pub bags : Lists → List BoundSelect → List Row
 bags tables selects = flat_map (select_bag tables) (map select_view selects)
-
-pub bags_next : (tables : Lists) (selects : List BoundSelect) (i : ℕ) (s : BoundSelect) → i < length selects → s ≡ get_or selects i s
-    → bags tables (drop i selects) ≡ select_bag tables (select_view s) ++ bags tables (drop (i + 1) selects)
-bags_next tables selects i s low is = ap (bags tables) (drop_next selects i s low is)
 
 -- what holds of all of them holds of the next
 pub next_fits : (tables : Lists) (selects : List BoundSelect) (i : ℕ) (s : BoundSelect) → i < length selects → s ≡ get_or selects i s

@@ -1,7 +1,8 @@
 -- Rows of two lengths differ; and one turn of the loop that keeps each row once.
-use Rattle.std.proofs.Common.{◌≡◌, ◌≢◌, refl, sym, ap, ◌∙◌, inl, inr, ℕ, suc, ◌+◌, ◌<◌, Bool, true, false, ◌&&◌, List, [], ◌∷◌, ◌++◌, length, take, get_or}
+use Rattle.std.proofs.Common.{◌≡◌, ◌≢◌, refl, sym, ap, ◌∙◌, inl, inr, ℕ, suc, ◌+◌, ◌<◌, false, ◌&&◌, List, [], ◌∷◌, ◌++◌, length, take, get_or}
 use Rattle.std.specs.Prelude.{if◌then◌else◌}
 use Rattle.std.specs.List.{list_any}
+use Rattle.std.proofs.Math.Bool.{and-false}
 use Rattle.std.proofs.lemmas.Bool.{cases_Bool}
 use Rattle.std.proofs.lemmas.List.{take_more}
 use Rattle.qsr_lists.specs.Lists.{firsts}
@@ -9,17 +10,13 @@ use Rattle.qsr_lists.proofs.Firsts.{firsts_known, firsts_new}
 use Rattle.sql_mean.specs.Rows.{Row, same_value, same_row}
 use Rattle.sql_mean.proofs.Equal.{rows_are_equal}
 
-no_and : (a : Bool) → (a && false) ≡ false
-no_and true = refl
-no_and false = refl
-
 -- rows of two lengths aren't the same
 pub of_two_lengths : (a b : Row) → length a ≢ length b → same_row a b ≡ false
 of_two_lengths [] [] differ = absurd (differ refl)
 of_two_lengths [] (w ∷ ws) differ = refl
 of_two_lengths (v ∷ vs) [] differ = refl
 of_two_lengths (v ∷ vs) (w ∷ ws) differ =
-    ap (λ b. same_value v w && b) (of_two_lengths vs ws (λ same. differ (ap suc same))) ∙ no_and (same_value v w)
+    ap (λ b. same_value v w && b) (of_two_lengths vs ws (λ same. differ (ap suc same))) ∙ and-false (same_value v w)
 
 -- the firsts of some rows, and of one row more
 one_more : (once : List Row) (row : Row) (before : List Row) → once ≡ firsts same_row before
