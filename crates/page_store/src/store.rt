@@ -79,6 +79,7 @@ impl<'d, D: Disk> Store<'d, D> {
         ensures rest { IfOk result (λ n. drop n buf.new ≡ drop n buf.old) }
         ensures none { IfErr result (IsNoBody (twin_page self.old.sizes (twin_number twin)) ((store_view self.old).honest) ((store_view self.old).seen.body (twin_number twin))) }
         ensures stays { Stays (store_view self.old) (store_view self.new) }
+        ensures disk_stays { Stays (D.view self.old.disk.now) (D.view self.new.disk.now) }
         ensures ready { IsReady self.old → IsReady self.new }
         ensures sizes { self.new.sizes ≡ self.old.sizes }
         ensures same { self.new.disk.ghost_name ≡ self.old.disk.ghost_name }

@@ -303,9 +303,10 @@ fn zeros_are_no_store(rt: HostRuntime) -> Result<(), Fail> {
 }
 
 /// What is said where the catalogue is of no form.
-const NO_CATALOGUE: [Step; 2] = [
+const NO_CATALOGUE: [Step; 3] = [
     ("create b x int", b"", "not a store, page 1\n", 7),
     ("load a", b"1\n", "not a store, page 1\n", 7),
+    ("explain", b"SELECT * FROM a\n", "not a store, page 1\n", 7),
 ];
 
 /// Bytes over a store with one table, whose catalogue stands in its slot 1, on pages 3 and 4: 17 tables; no table, and

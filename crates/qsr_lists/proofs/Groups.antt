@@ -1,31 +1,14 @@
 -- Each element is in one group.
-use Rattle.std.specs.Prelude.{◌≡◌, ℕ, ◌+◌, Bool, true, false, not, List, [], ◌∷◌, length, filter, map}
-use Rattle.std.specs.List.{sum_by}
-use Rattle.std.proofs.Common.{refl, sym, ap, ◌∙◌, inl, inr, arith}
+use Rattle.std.specs.Prelude.{◌≡◌, Bool, true, false, not, List, [], ◌∷◌, ◌++◌, length, filter, map}
+use Rattle.std.specs.List.{flat_map, sum_by}
+use Rattle.std.specs.List.Sorted.{IsPermutation}
+use Rattle.std.proofs.Common.{refl, sym, ap, subst, ◌∙◌, inl, inr, arith}
 use Rattle.std.proofs.Math.Bool.{cond}
 use Rattle.std.proofs.lemmas.Bool.{cases_Bool, true≢false}
-use Rattle.std.proofs.lemmas.List.Sums.{length-filter, sum_by-cons}
+use Rattle.std.proofs.lemmas.List.Concat.{length-flat_map}
+use Rattle.std.proofs.lemmas.List.Folds.{flat_map-map}
+use Rattle.std.proofs.lemmas.List.Sorted.{IsPermutation-append_right, IsPermutation-cons, IsPermutation-middle, IsPermutation-refl, IsPermutation-sym, IsPermutation-trans, length_permutation}
 use Rattle.qsr_lists.specs.Lists.{IsEquality, firsts, groups, of_key}
-
-sum_by-map : {X A : Type 0} (f : A → ℕ) (g : X → A) (xs : List X) → sum_by f (map g xs) ≡ sum_by (λ x. f (g x)) xs
-sum_by-map f g [] = refl
-sum_by-map {X} f g (x ∷ xs) =
-    sum_by-cons f (g x) (map g xs)
-    ∙ ap (λ (rest : ℕ). f (g x) + rest) (sum_by-map f g xs)
-    ∙ sym (sum_by-cons (λ (x : X). f (g x)) x xs)
-
-sum_by-add : {X : Type 0} (whole f g : X → ℕ) → ((x : X) → whole x ≡ f x + g x) → (xs : List X) → sum_by whole xs ≡ sum_by f xs + sum_by g xs
-sum_by-add whole f g each [] = refl
-sum_by-add whole f g each (x ∷ xs) =
-    let here = each x in
-    let later = sum_by-add whole f g each xs in
-    omega (arith, here, later, sum_by-cons whole x xs, sum_by-cons f x xs, sum_by-cons g x xs)
-
-sum_by-none : {X : Type 0} (xs : List X) → sum_by (λ x. 0) xs ≡ 0
-sum_by-none [] = refl
-sum_by-none {X} (x ∷ xs) =
-    let later = sum_by-none xs in
-    omega (arith, later, sum_by-cons (λ (x : X). 0) x xs)
 
 module _ {K : Type 0} (same : K → K → Bool) (equality : IsEquality same) where
   -- the keys that are the same as this one
@@ -73,15 +56,41 @@ module _ {K : Type 0} (same : K → K → Bool) (equality : IsEquality same) whe
   ]
 
   module _ {X : Type 0} (key : X → K) where
-    -- 1 at an element's key, 0 at others
-    abbrev holds : X → K → ℕ
-    holds x k = cond (same k (key x)) 1 0
-
-    of_key-cons : (x : X) (xs : List X) (k : K) → length (of_key same key (x ∷ xs) k) ≡ holds x k + length (of_key same key xs k)
-    of_key-cons x xs k = elim (cases_Bool (same k (key x))) [
-      | inl is ↦ rw is (omega arith)
-      | inr isnt ↦ rw isnt (omega arith)
+    -- The elements of some keys, where one more has none of these keys.
+    of_others : (x : X) (xs : List X) (ks : List K) → length (equals (key x) ks) ≡ 0
+        → flat_map (of_key same key (x ∷ xs)) ks ≡ flat_map (of_key same key xs) ks
+    of_others x xs [] none = refl
+    of_others x xs (k ∷ ks) none = elim (cases_Bool (same k (key x))) [
+      | inl is ↦
+          let some : length (k ∷ equals (key x) ks) ≡ 0 = ap (λ b. length (cond b (k ∷ equals (key x) ks) (equals (key x) ks))) (sym is) ∙ none in
+          absurd (omega (arith, some))
+      | inr isnt ↦
+          let later : length (equals (key x) ks) ≡ 0 = ap (λ b. length (cond b (k ∷ equals (key x) ks) (equals (key x) ks))) (sym isnt) ∙ none in
+          rw isnt (ap (λ rest. of_key same key xs k ++ rest) (of_others x xs ks later))
     ]
+
+    -- One more, whose key is one of these, is in the group of that key.
+    one_more : (x : X) (xs : List X) (ks : List K) → length (equals (key x) ks) ≡ 1
+        → IsPermutation (x ∷ flat_map (of_key same key xs) ks) (flat_map (of_key same key (x ∷ xs)) ks)
+    one_more x xs [] once = cc
+    one_more x xs (k ∷ ks) once = elim (cases_Bool (same k (key x))) [
+      | inl is ↦
+          let here : length (k ∷ equals (key x) ks) ≡ 1 = ap (λ b. length (cond b (k ∷ equals (key x) ks) (equals (key x) ks))) (sym is) ∙ once in
+          let none : length (equals (key x) ks) ≡ 0 = omega (arith, here) in
+          rw (is, of_others x xs ks none) (IsPermutation-refl (x ∷ (of_key same key xs k ++ flat_map (of_key same key xs) ks)))
+      | inr isnt ↦
+          let later : length (equals (key x) ks) ≡ 1 = ap (λ b. length (cond b (k ∷ equals (key x) ks) (equals (key x) ks))) (sym isnt) ∙ once in
+          let here = of_key same key xs k in
+          let rest = flat_map (of_key same key xs) ks in
+          let rest' = flat_map (of_key same key (x ∷ xs)) ks in
+          rw isnt (IsPermutation-trans (x ∷ (here ++ rest)) (here ++ x ∷ rest) (here ++ rest')
+          (IsPermutation-sym (here ++ x ∷ rest) (x ∷ (here ++ rest)) (IsPermutation-middle here x rest))
+          (IsPermutation-append_right here (x ∷ rest) rest' (one_more x xs ks later)))
+    ]
+
+    none_left : (ks : List K) → flat_map (of_key same key []) ks ≡ []
+    none_left [] = refl
+    none_left (k ∷ ks) = none_left ks
 
     is_among-itself : (x : X) (xs : List X) → is_among (key x) (map key (x ∷ xs)) ≡ true
     is_among-itself x xs = rw (equality.itself (key x)) refl
@@ -94,15 +103,26 @@ module _ {K : Type 0} (same : K → K → Bool) (equality : IsEquality same) whe
 
     -- Keys among which each element's key stands once divide the elements.
     divide : (ks : List K) (xs : List X) → ((k : K) → is_among k (map key xs) ≡ true → length (equals k ks) ≡ 1)
-        → sum_by (λ k. length (of_key same key xs k)) ks ≡ length xs
-    divide ks [] each = sum_by-none ks
-    divide ks (x ∷ xs) each =
-        let here : sum_by (holds x) ks ≡ 1 = sym (length-filter (λ k. same k (key x)) ks) ∙ each (key x) (is_among-itself x xs) in
-        let later = divide ks xs (λ k among. each k (is_among-later x xs k among)) in
-        let both = sum_by-add (λ k. length (of_key same key (x ∷ xs) k)) (holds x) (λ k. length (of_key same key xs k)) (of_key-cons x xs) ks in
-        omega (arith, here, later, both)
+        → IsPermutation xs (flat_map (of_key same key xs) ks)
+    divide ks [] each = subst (λ none. IsPermutation [] none) (sym (none_left ks)) (IsPermutation-refl [])
+    divide ks (x ∷ xs) each = IsPermutation-trans (x ∷ xs) (x ∷ flat_map (of_key same key xs) ks) (flat_map (of_key same key (x ∷ xs)) ks)
+        (IsPermutation-cons x xs (flat_map (of_key same key xs) ks) (divide ks xs (λ k among. each k (is_among-later x xs k among))))
+        (one_more x xs ks (each (key x) (is_among-itself x xs)))
+
+pub groups_divide : {X K : Type 0} (same : K → K → Bool) (key : X → K) (xs : List X) → IsEquality same → IsPermutation xs (flat_map (λ g. g.1) (groups same key xs))
+groups_divide {X} {K} same key xs equality =
+    subst (IsPermutation xs) (sym (flat_map-map (λ (g : K × List X). g.1) (λ k. (k, of_key same key xs k)) (firsts same (map key xs))))
+    (divide same equality key (firsts same (map key xs)) xs (λ k among. once same equality k (map key xs) among))
 
 pub groups_hold_all : {X K : Type 0} (same : K → K → Bool) (key : X → K) (xs : List X) → IsEquality same → sum_by (λ g. length g.1) (groups same key xs) ≡ length xs
 groups_hold_all {X} {K} same key xs equality =
-    sum_by-map (λ (g : K × List X). length g.1) (λ k. (k, of_key same key xs k)) (firsts same (map key xs))
-    ∙ divide same equality key (firsts same (map key xs)) xs (λ k among. once same equality k (map key xs) among)
+    sym (length-flat_map (λ (g : K × List X). g.1) (groups same key xs))
+    ∙ length_permutation xs (flat_map (λ (g : K × List X). g.1) (groups same key xs)) (groups_divide same key xs equality)
+
+-- the keys of groups: each key once, where it appears first
+keys_kept : {X K : Type 0} (same : K → K → Bool) (key : X → K) (xs : List X) (ks : List K) → map (λ (g : K × List X). g.0) (map (λ k. (k, of_key same key xs k)) ks) ≡ ks
+keys_kept same key xs [] = refl
+keys_kept same key xs (k ∷ ks) = ap (λ rest. k ∷ rest) (keys_kept same key xs ks)
+
+pub keys_once : {X K : Type 0} (same : K → K → Bool) (key : X → K) (xs : List X) → map (λ (g : K × List X). g.0) (groups same key xs) ≡ firsts same (map key xs)
+keys_once same key xs = keys_kept same key xs (firsts same (map key xs))

@@ -1,6 +1,6 @@
-ghost use Rattle.std.specs.Prelude.{◌≡◌, Bool, List, length};
+ghost use Rattle.std.specs.Prelude.{◌≡◌, Bool, List, length, map};
 ghost use Rattle.std.specs.Cmp.{IsStrictWeakOrder};
-ghost use Rattle.std.specs.List.{sum_by};
+ghost use Rattle.std.specs.List.{flat_map, sum_by};
 ghost use Rattle.std.specs.List.Sorted.{IsPermutation, IsSortedBy, IsStableBy};
 ghost use Rattle.qsr_lists.specs.Lists.{IsAsymmetric, IsEquality, firsts, groups, product, size_of_product, sorted};
 
@@ -14,9 +14,12 @@ pub fn firsts_of_firsts<X>()
     ensures { (same : X → X → Bool) (xs : List X) → firsts same (firsts same xs) ≡ firsts same xs }
 {}
 
-/// Each element is in one group: the groups' sizes add up to the size of the list.
+/// No two groups have one key; and where the test is one of equality, each element is in one group, so that the groups' sizes add
+/// up to the size of the list.
 pub fn groups_hold_all<X, K>()
-    ensures { (same : K → K → Bool) (key : X → K) (xs : List X) → IsEquality same → sum_by (λ g. length g.1) (groups same key xs) ≡ length xs }
+    ensures elements { (same : K → K → Bool) (key : X → K) (xs : List X) → IsEquality same → IsPermutation xs (flat_map (λ g. g.1) (groups same key xs)) }
+    ensures sizes { (same : K → K → Bool) (key : X → K) (xs : List X) → IsEquality same → sum_by (λ g. length g.1) (groups same key xs) ≡ length xs }
+    ensures keys { (same : K → K → Bool) (key : X → K) (xs : List X) → map (λ g. g.0) (groups same key xs) ≡ firsts same (map key xs) }
 {}
 
 /// A sorted list has the elements of the list that was sorted.

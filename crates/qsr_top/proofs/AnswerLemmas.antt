@@ -58,10 +58,6 @@ Sent-more {held = held} more sent = record {
   whole = sym (append_assoc sent.told held more) ∙ ap (λ text. text ++ more) sent.whole;
 }
 
--- nothing is sent
-pub Sent-nothing : (given : Option (List ℕ)) (held : List ℕ) → Sent given given held held
-Sent-nothing given held = record { told = []; given = Appends-nil given; whole = refl }
-
 -- of what was held and of more text a part is sent
 pub Sent-then : {old mid new : Option (List ℕ)} {held held' text : List ℕ} (more : List ℕ) → Sent old mid held text → Sent mid new held' (held ++ more) → Sent old new held' (text ++ more)
 Sent-then {old = old} {mid = mid} {new = new} {held = held} {held' = held'} more sent next = record {
@@ -118,15 +114,6 @@ SentUpTo-then Usage new held' more sent next = absurd next
 SentUpTo-then Refused new held' more sent next = absurd next
 SentUpTo-then NotStore new held' more sent next = absurd next
 
--- a line that lists no rows is answered
-pub Answers-reply : (tells : Type 0) (size : ℕ) (table : Table) (line : ScriptLine) (given : Option (List ℕ)) (held held' : List ℕ)
-    → (serve size table line).listed ≡ [] → held' ≡ held ++ text_of (serve size table line).reply → Answers tells size table line given given held held'
-Answers-reply tells size table line given held held' none reply = record {
-  text = text_of (serve size table line).reply;
-  answer = record { values = []; lists = record { count = ap length (sym none); are = λ told. sym none }; whole = refl };
-  sent = record { told = []; given = Appends-nil given; whole = reply };
-}
-
 -- what is said of a line that was cut off without a fault of the sink
 kept_up_to : {end : End} {given now : Option (List ℕ)} {held text : List ℕ} → (end ≡ NoMemory) ⊎ (end ≡ DiskFault) → Sent given now held text → SentUpTo end given now held text
 kept_up_to {given = given} {now = now} {held = held} {text = text} (inl is) sent = subst (λ (end : End). SentUpTo end given now held text) (sym is) sent
@@ -148,10 +135,6 @@ pub record Listing (tells : Type 0) (rows : List ℤ) (place : ℕ) (given now :
   pub count : length values ≡ place
   pub are : tells → values ≡ take place rows
   pub sent : Sent given now held' (held ++ rows_text values)
-
-pub Listing-start : (tells : Type 0) (rows : List ℤ) (given : Option (List ℕ)) (held : List ℕ) → Listing tells rows 0 given given held held
-Listing-start tells rows given held =
-    record { values = []; count = refl; are = λ told. refl; sent = record { told = []; given = Appends-nil given; whole = sym (append-nil held) } }
 
 rows_text-more : (held : List ℕ) (values more : List ℤ) → (held ++ rows_text values) ++ rows_text more ≡ held ++ rows_text (values ++ more)
 rows_text-more held values more = append_assoc held (rows_text values) (rows_text more) ∙ ap (λ text. held ++ text) (sym (flat_map-append row_text values more))

@@ -24,8 +24,3 @@ Keeps-read None b old xs held n kept consumes = tt
 Keeps-read (Some all) None old xs held n kept consumes = absurd consumes
 Keeps-read (Some all) (Some left) old xs held n kept consumes =
     ap (λ front. front ++ left) (grown old xs held n kept) ∙ append_assoc old (take n (drop held xs)) left ∙ ap (λ back. old ++ back) (sym consumes)
-
-pub Keeps-held : (a b : Option (List ℕ)) (old new : List ℕ) → new ≡ old → Keeps a b → Keeps (prepend_known old a) (prepend_known new b)
-Keeps-held None b old new same keeps = tt
-Keeps-held (Some all) None old new same keeps = absurd keeps
-Keeps-held (Some all) (Some left) old new same keeps = ap (λ front. front ++ left) same ∙ ap (λ back. old ++ back) keeps

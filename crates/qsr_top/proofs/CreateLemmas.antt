@@ -18,9 +18,9 @@ use Rattle.table_file.specs.Tables.{AreRows, AreTables, HasTables, OnlyTables, T
 use Rattle.table_file.specs.declared.catalogue.Catalogue.{Catalogue}
 use Rattle.table_file.specs.declared.fault.TableFault.{TableFault}
 use Rattle.table_file.specs.declared.fault.TableFault.TheVariants.{Exists, CatalogFull, RowTooWide, NoTable, BadField, TableFull, NotStore, Failed, Memory}
-use Rattle.qsr_top.specs.Creating.{Creates, IsToldOfCatalogue, IsToldOfDisk, told_of_fault, told_of_opening}
+use Rattle.qsr_top.specs.Creating.{Creates, IsToldOfCatalogue, IsToldOfDisk}
 use Rattle.qsr_top.specs.Stored.{IsNotStored, Stands, StandsFor}
-use Rattle.qsr_top.specs.Told.{ToldCause}
+use Rattle.qsr_top.specs.Told.{ToldCause, told_of_fault, told_of_opening}
 use Rattle.qsr_top.specs.declared.told.Told.{Told}
 use Rattle.qsr_top.specs.declared.told.Told.TheVariants as told
 use Rattle.qsr_top.proofs.StandLemmas.{both_runs, still_stands}
@@ -56,11 +56,12 @@ pub behind_read : (size : ℕ) (sizes : Sizes) (s : Tables) {a b c : View Conten
     → LeavesOnly b c (λ m. Stands size sizes s m ⊎ P m) → LeavesOnly a c (λ m. Stands size sizes s m ⊎ P m)
 behind_read size sizes s each stays run = and_then (weaker_run stays.time (λ m now. inl (each m now))) run (λ m stands. stands)
 
-pub changed : (size : ℕ) (sizes : Sizes) (s s' : Tables) {a b : View Contents} → EachImage a (Stands size sizes s)
-    → EachImage b (HasTables s') → LeavesOnly a b (After OnlyTables a) → EachImage b (Stands size sizes s')
-changed size sizes s s' each tables others m now =
-    let old = each_now others m now in
-    still_stands size sizes s s' old.0 m (each old.0 old.1) old.2 (tables m now)
+-- a run that leaves tables in a store leaves a store that stands for them
+pub stands_each : (size : ℕ) (sizes : Sizes) (s s' : Tables) {a b : View Contents} → EachImage a (Stands size sizes s) → EachImage b (HasTables s')
+    → LeavesOnly a b (After OnlyTables a) → EachImage b (Stands size sizes s')
+stands_each size sizes s s' each has others m now =
+    let before = each_now others m now in
+    still_stands size sizes s s' before.0 m (each before.0 before.1) before.2 (has m now)
 
 pub others_behind_read : {a b c : View Contents} → Stays a b → LeavesOnly b c (After OnlyTables b) → ((d : Contents) → OnlyTables d d) → LeavesOnly a c (After OnlyTables a)
 others_behind_read stays run same =
@@ -95,13 +96,6 @@ create_refused size sizes s name columns disk TableFull is stands = absurd is
 create_refused size sizes s name columns disk (NotStore page) is stands = absurd is
 create_refused size sizes s name columns disk Failed is stands = tt
 create_refused size sizes s name columns disk Memory is stands = stands (λ never. cc)
-
--- a catalogue that can't be read for want of memory or by a fault of the disk
-pub create_unread : (size : ℕ) (sizes : Sizes) (s : Tables) (name : List ℕ) (columns : List Column) (disk : View Image) (fault : TableFault)
-    → (fault ≡ Failed) ⊎ (fault ≡ Memory) → StandsFor size sizes s disk → Creates size sizes s name columns disk (told_of_fault fault)
-create_unread size sizes s name columns disk fault is stands =
-    ⊎_elim (λ failed. subst (λ fault. Creates size sizes s name columns disk (told_of_fault fault)) (sym failed) tt)
-    (λ memory. subst (λ fault. Creates size sizes s name columns disk (told_of_fault fault)) (sym memory) stands) is
 
 -- what is known of a disk, of the same disk by another name
 pub of_same : {X : Type 0} (P : X → Type 0) {x : X} (y : X) → x ≡ y → P y → P x

@@ -1,5 +1,5 @@
 -- What is answered to a query, and over which tables.
-use Rattle.std.proofs.Common.{◌≡◌, ◌⊎◌, ℕ, zero, suc, ◌+◌, add-one, List, [], ◌∷◌, ◌++◌, map, take, Option, None, Some, Result, Ok, Err, ⊎_elim, refl, sym, ap, subst, ◌∙◌}
+use Rattle.std.proofs.Common.{◌≡◌, ◌⊎◌, ℕ, zero, suc, List, [], ◌∷◌, map, Option, None, Some, Result, Ok, Err, inl, inr, ⊎_elim, refl, sym, ap, subst, ◌∙◌}
 use Rattle.std.specs.Prelude.{IfOk, IfSome, IfErr, slice_get}
 use Rattle.disk_model.specs.Image.{Image}
 use Rattle.disk_model.specs.View.{EachImage, Stays, View}
@@ -26,7 +26,7 @@ use Rattle.qsr_top.specs.declared.told.Told.{Told}
 use Rattle.qsr_top.specs.declared.told.Told.TheVariants as told
 use Rattle.qsr_top.specs.Creating.{IsToldOfCatalogue, IsToldOfDisk}
 use Rattle.qsr_top.specs.Told.{ToldCause}
-use Rattle.qsr_top.specs.Explaining.{AnswersQuery, AnswersText, ComesToExplain, IsAnswer, IsMisread, IsNoLine, IsOnlyLine, IsQuery, IsUnstored, table_of, table_of_entry, tables_of}
+use Rattle.qsr_top.specs.Explaining.{AnswersQuery, AnswersText, ComesToExplain, IsAnswer, IsMisread, IsNoLine, IsOnlyLine, IsQuery, IsStoreFault, table_of, table_of_entry, tables_of}
 use Rattle.qsr_top.specs.Stored.{IsNotStored, StandsFor}
 use Rattle.table_file.specs.Refusals.{HasNoCatalogue}
 use Rattle.qsr_top.proofs.CreateLemmas.{told_of_disk}
@@ -110,15 +110,6 @@ named_at [] table name columns first second = cc
 named_at (entry ∷ entries) zero name columns first second = cc
 named_at (entry ∷ entries) (suc table) name columns first second = named_at entries table name columns first second
 
-next_suc : {X : Type 0} (xs : List X) (i : ℕ) (x : X) → slice_get xs i ≡ Some x → take (suc i) xs ≡ take i xs ++ x ∷ []
-next_suc [] i x is = cc
-next_suc (y ∷ ys) zero x is = cc
-next_suc (y ∷ ys) (suc i) x is = ap (λ rest. y ∷ rest) (next_suc ys i x is)
-
--- the next of them
-pub named_next : {X : Type 0} (xs : List X) (i : ℕ) (x : X) → slice_get xs i ≡ Some x → take (i + 1) xs ≡ take i xs ++ x ∷ []
-named_next xs i x there = rw add-one (next_suc xs i x there)
-
 -- ---- what is told in the place of an answer
 
 pub no_line_of_disk : (reads : Result (List ℕ) ℕ → Type 0) (size : ℕ) (disk : View Image) (fault : Told) → IsNoLine reads fault → IsToldOfDisk size disk fault
@@ -135,25 +126,6 @@ no_line_of_disk reads size disk told.NoTable none = tt
 no_line_of_disk reads size disk (told.BadField line column) none = tt
 no_line_of_disk reads size disk told.TableFull none = tt
 no_line_of_disk reads size disk (told.NotStore page) none = absurd none
-
-pub no_tables : (reads : Result (List ℕ) ℕ → Type 0) (fault : Told) → (fault ≡ told.DiskFault) ⊎ (fault ≡ told.NoMemory) → IsNoLine reads fault
-no_tables reads fault is =
-    ⊎_elim (λ failed. subst (IsNoLine reads) (sym failed) tt) (λ memory. subst (IsNoLine reads) (sym memory) tt) is
-
-unstored_err : (X Y : Type 0) (fault : Told) → IsUnstored {X = X} (Err fault) → IsUnstored {X = Y} (Err fault)
-unstored_err X Y (told.NotStore page) is = tt
-unstored_err X Y told.DiskFault is = tt
-unstored_err X Y told.NoMemory is = tt
-unstored_err X Y told.Created is = absurd is
-unstored_err X Y (told.Loaded rows) is = absurd is
-unstored_err X Y told.Exists is = absurd is
-unstored_err X Y (told.RowTooWide bytes) is = absurd is
-unstored_err X Y told.CatalogueFull is = absurd is
-unstored_err X Y told.NoTable is = absurd is
-unstored_err X Y (told.BadField line column) is = absurd is
-unstored_err X Y told.TableFull is = absurd is
-unstored_err X Y (told.BadLine number) is = absurd is
-unstored_err X Y told.SourceFault is = absurd is
 
 -- ---- the store that is opened
 
@@ -185,23 +157,29 @@ opened_none size page own v w stays stores honest not_stored =
 
 -- ---- the whole command, where no answer is given
 
-pub comes_untabled : (size : ℕ) (left : Option (List ℕ)) (disk : View Image) (faults faults' source : ℕ) (fault : Told) → ((source : ℕ) → ToldCause fault faults faults' source source)
-    → IsToldOfDisk size disk fault → ((page : ℕ) → disk.honest → IsNotStored size page disk.seen → IsUnstored {X = List NamedTable} (Err fault))
+-- the tables aren't read
+pub told_without_tables : (size : ℕ) (left : Option (List ℕ)) (disk : View Image) (faults faults' source : ℕ) (fault : Told) → IsStoreFault fault
+    → ((source : ℕ) → ToldCause fault faults faults' source source) → IsToldOfDisk size disk fault
     → ((sizes : Sizes) (s : Tables) → AreTables sizes s → StandsFor size sizes s disk → disk.honest → (fault ≡ told.DiskFault) ⊎ (fault ≡ told.NoMemory))
     → ComesToExplain size left left disk faults faults' source source (Err fault)
-comes_untabled size left disk faults faults' source fault cause of_disk unstored tables = record {
+told_without_tables size left disk faults faults' source fault is cause of_disk tables = record {
+  tables = [];
+  explains = inl is;
   cause = cause source;
   of_disk = of_disk;
-  unstored = λ page honest none. unstored_err (List NamedTable) QueryAnswer fault (unstored page honest none);
-  explains = λ sizes s are stands honest. no_tables (IsOnlyLine left) fault (tables sizes s are stands honest);
+  stored = λ sizes s are stands honest page none. ⊎_elim (λ failed. cc) (λ memory. cc) (tables sizes s are stands honest);
+  unstored = λ page honest none. is;
 }
 
-pub comes_unlined : (size : ℕ) (left left' : Option (List ℕ)) (disk : View Image) (faults faults' source source' : ℕ) (fault : Told) → faults' ≡ faults
+-- the tables are read, but no line is
+pub told_without_line : (size : ℕ) (left left' : Option (List ℕ)) (disk : View Image) (faults faults' source source' : ℕ) (fault : Told) → faults' ≡ faults
     → ((disk : ℕ) → ToldCause fault disk disk source source') → IsNoLine (IsOnlyLine left) fault → ((page : ℕ) → disk.honest → IsNotStored size page disk.seen → ⊥)
     → ComesToExplain size left left' disk faults faults' source source' (Err fault)
-comes_unlined size left left' disk faults faults' source source' fault same cause none stored = record {
+told_without_line size left left' disk faults faults' source source' fault same cause none read = record {
+  tables = [];
+  explains = inr none;
   cause = subst (λ (faults' : ℕ). ToldCause fault faults faults' source source') (sym same) (cause faults);
   of_disk = no_line_of_disk (IsOnlyLine left) size disk fault none;
-  unstored = λ page honest not_stored. absurd (stored page honest not_stored);
-  explains = λ sizes s are stands honest. none;
+  stored = λ sizes s are stands honest page is. subst (IsNoLine (IsOnlyLine left)) is none;
+  unstored = λ page honest not_stored. absurd (read page honest not_stored);
 }

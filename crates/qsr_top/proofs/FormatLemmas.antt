@@ -14,8 +14,9 @@ use Rattle.table_file.specs.Tables.{catalogue_of, no_tables}
 use Rattle.qsr_top.specs.declared.end.End.{End}
 use Rattle.qsr_top.specs.declared.end.End.TheVariants.{Finished, Refused, NoMemory}
 use Rattle.qsr_top.specs.Ends.{end_text}
-use Rattle.qsr_top.specs.Formats.{Formatted, IsEmpty, IsTold, bytes_needed, formatted_text, too_small_text}
+use Rattle.qsr_top.specs.Formats.{Formatted, IsEmpty, bytes_needed, formatted_text, too_small_text}
 use Rattle.qsr_top.specs.Stored.{Stands}
+use Rattle.qsr_top.specs.Told.{IsTold}
 
 pub Formatted-small : {T E : Type 0} (bytes_of : T → List ℕ) (text : Result T E) (sizes : Sizes) (size need have : ℕ) (end : End) (given given' : Option (List ℕ)) (disk : View Image)
     (faults faults' sink sink' : ℕ) → need ≡ bytes_needed sizes → have ≡ size → size < bytes_needed sizes → faults' ≡ faults

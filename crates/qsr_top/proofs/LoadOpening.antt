@@ -1,22 +1,19 @@
 -- A `load` from the opening of its store on.
-use Rattle.std.proofs.Common.{◌≡◌, ◌⊎◌, ℕ, List, Option, Some, inl, inr, refl, sym, subst}
+use Rattle.std.proofs.Common.{◌≡◌, ◌⊎◌, ℕ, List, Option, Some, inl, refl, sym, subst}
 use Rattle.disk_model.specs.Image.{Image}
 use Rattle.disk_model.specs.View.{After, EachImage, LeavesOnly, Stays, View}
 use Rattle.disk_model.proofs.LiftedRuns.{lifted_stays}
 use Rattle.disk_model.proofs.Runs.{and_then, weaker_run}
 use Rattle.page_store.specs.Format.{CausedBy}
-use Rattle.page_store.specs.Opening.{IsOpeningFault, IsStore}
+use Rattle.page_store.specs.Opening.{IsOpeningFault}
 use Rattle.page_store.specs.Store.{Contents, contents_of, contents_view}
 use Rattle.page_store.specs.declared.fault.StoreFault.{StoreFault}
-use Rattle.page_store.specs.declared.fault.StoreFault.TheVariants as stores
 use Rattle.page_store.specs.declared.pages.Sizes.{Sizes}
-use Rattle.table_file.specs.Refusals.{HasNoCatalogue}
 use Rattle.table_file.specs.Tables.{AreTables, OnlyTables, Tables}
-use Rattle.qsr_top.specs.Creating.{IsToldOfCatalogue, IsToldOfDisk, told_of_opening}
 use Rattle.qsr_top.specs.Loading.{ComesToLoad, Loads}
 use Rattle.qsr_top.specs.Stored.{Stands, StandsFor}
+use Rattle.qsr_top.specs.Told.{told_of_opening}
 use Rattle.qsr_top.specs.declared.told.Told.{Told}
-use Rattle.qsr_top.specs.declared.told.Told.TheVariants.{Created, Loaded, Exists, RowTooWide, CatalogueFull, NoTable, BadField, TableFull, BadLine, NotStore, DiskFault, SourceFault, NoMemory}
 use Rattle.qsr_top.proofs.CreateLemmas.{honest_of, no_change, unopened_cause, unopened_fault, unopened_of_disk}
 
 -- the store that is opened has the sizes of the tables

@@ -7,7 +7,7 @@ use Rattle.std.specs.Option.{option_map}
 use Rattle.std.specs.Prelude.{slice_get, slice_set}
 use Rattle.disk_model.specs.Image.{Image}
 use Rattle.disk_model.specs.View.{After, EachImage, LeavesOnly, View}
-use Rattle.disk_model.proofs.Runs.{and_then, each_now, weaker_run}
+use Rattle.disk_model.proofs.Runs.{and_then, weaker_run}
 use Rattle.page_store.specs.Store.{Contents, contents_view}
 use Rattle.page_store.specs.declared.pages.Sizes.{Sizes}
 use Rattle.qsr_value.specs.Values.{AreTexts, Fits}
@@ -153,13 +153,6 @@ HasLoaded-all size sizes now s name left left' disk t w v catalogue count is rea
       tables = AreTables-rows sizes s w.table t read.rows are is.there read.read.are (subst (IsCatalogue sizes) says here);
       stands = stands;
     }
-
--- a run that leaves tables in a store leaves a store that stands for them
-pub stands_each : (size : ℕ) (sizes : Sizes) (s s' : Tables) {a b : View Contents} → EachImage a (Stands size sizes s) → EachImage b (HasTables s')
-    → LeavesOnly a b (After OnlyTables a) → EachImage b (Stands size sizes s')
-stands_each size sizes s s' each has others m now =
-    let before = each_now others m now in
-    still_stands size sizes s s' before.0 m (each before.0 before.1) before.2 (has m now)
 
 pub stands_kept : (size : ℕ) (sizes : Sizes) (s : Tables) {a b : View Contents} → EachImage a (Stands size sizes s) → LeavesOnly a b (HasTables s)
     → LeavesOnly a b (After OnlyTables a) → LeavesOnly a b (Stands size sizes s)

@@ -40,10 +40,6 @@ at_place rows n k c has row (inr is) = subst (λ (k : ℕ). Holds c (ROW_BYTES *
 pub HasRows-more : (rows : List ℤ) (n : ℕ) (c : Image) → HasRows rows n c → Holds c (ROW_BYTES * n) (row_bytes (slice_index_or rows n (pos 0))) → HasRows rows (n + 1) c
 HasRows-more rows n c has row = record { each = λ k lt. at_place rows n k c has row (grind arith) }
 
--- fewer rows
-pub HasRows-fewer : (rows : List ℤ) (m n : ℕ) (c : Image) → m ≤ n → HasRows rows n c → HasRows rows m c
-HasRows-fewer rows m n c le has = record { each = λ k lt. has.each k (omega arith) }
-
 -- one write more
 pub WritesRows-more : {before after old mid new : ℕ} → WritesRows before after old mid → new ≡ next_count mid → WritesRows before (after + 1) old new
 WritesRows-more writes next = record {

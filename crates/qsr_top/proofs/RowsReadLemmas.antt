@@ -1,8 +1,8 @@
 -- How rows that are read of an input add up, line by line.
-use Rattle.std.proofs.Common.{◌≡◌, ℕ, ◌+◌, List, [], ◌∷◌, ◌++◌, Option, None, Some, Result, Ok, Err, ap, refl, sym, subst, ◌∙◌, inl, inr, append_assoc, append-nil, if◌then◌else◌}
+use Rattle.std.proofs.Common.{◌≡◌, ℕ, ◌+◌, List, [], ◌∷◌, ◌++◌, Option, None, Some, Result, Ok, Err, ap, refl, sym, ◌∙◌, inl, inr, append_assoc, append-nil, if◌then◌else◌}
 use Rattle.std.proofs.lemmas.Bool.{cases_eq}
 use Rattle.std.proofs.lemmas.List.{append_cancel_left}
-use Rattle.std.specs.Io.KnownBytes.{IsAtEnd, Keeps, prepend_known}
+use Rattle.std.specs.Io.KnownBytes.{IsAtEnd, prepend_known}
 use Rattle.qsr_value.specs.declared.row.Value.{Value}
 use Rattle.qsr_value.specs.declared.schema.Column.{Column}
 use Rattle.qsr_top.specs.declared.next_line.NextLine.TheVariants.{Unended, End}
@@ -42,26 +42,6 @@ pub IsUnread-behind : (columns : List Column) (first next : ℕ) (a b : Option (
 IsUnread-behind columns first next None b rows read reads is = tt
 IsUnread-behind columns first next (Some a) None rows read reads is = absurd reads
 IsUnread-behind columns first next (Some a) (Some b) rows read reads is = reads ∙ ap (in_front rows) is
-
--- at its end
-pub IsUnread-end : (columns : List Column) (first next : ℕ) (a b : Option (List ℕ)) (rows : List (List Value))
-    → ReadsRows columns first a next b rows → IsUnread columns next b (Ok []) → IsUnread columns first a (Ok rows)
-IsUnread-end columns first next a b rows reads is =
-    subst (λ (all : List (List Value)). IsUnread columns first a (Ok all)) (append-nil rows) (IsUnread-behind columns first next a b rows (Ok []) reads is)
-
--- the same input, held otherwise
-pub ReadsRows-kept : (columns : List Column) (first next : ℕ) (a b c : Option (List ℕ)) (rows : List (List Value))
-    → Keeps a b → ReadsRows columns first b next c rows → ReadsRows columns first a next c rows
-ReadsRows-kept columns first next None b c rows keeps reads = tt
-ReadsRows-kept columns first next (Some a) None c rows keeps reads = absurd keeps
-ReadsRows-kept columns first next (Some a) (Some b) None rows keeps reads = absurd reads
-ReadsRows-kept columns first next (Some a) (Some b) (Some c) rows keeps reads = ap (λ bytes. rows_in columns first (lines_of bytes)) (sym keeps) ∙ reads
-
-pub IsUnread-kept : (columns : List Column) (number : ℕ) (a b : Option (List ℕ)) (read : Result (List (List Value)) Told)
-    → Keeps a b → IsUnread columns number b read → IsUnread columns number a read
-IsUnread-kept columns number None b read keeps is = tt
-IsUnread-kept columns number (Some a) None read keeps is = absurd keeps
-IsUnread-kept columns number (Some a) (Some b) read keeps is = ap (λ bytes. rows_in columns number (lines_of bytes)) (sym keeps) ∙ is
 
 pub IsUnread-input : (columns : List Column) (left : Option (List ℕ)) (read : Result (List (List Value)) Told) → IsUnread columns 1 left read → IsInput columns left read
 IsUnread-input columns None read is = tt

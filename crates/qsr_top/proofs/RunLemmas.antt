@@ -9,8 +9,7 @@ use Rattle.qsr_io.specs.Given.{GivesFront}
 use Rattle.qsr_top.specs.declared.end.End.{End}
 use Rattle.qsr_top.specs.declared.end.End.TheVariants.{Finished, BadLine, Usage, Refused, NotStore, DiskFault, SourceFault, SinkFault, NoMemory}
 use Rattle.qsr_top.specs.declared.script_line.ScriptLine.{ScriptLine}
-use Rattle.qsr_top.specs.Ends.{CausedBy, EndsIn, end_text}
-use Rattle.qsr_value.specs.Causes.{RoseByOne}
+use Rattle.qsr_top.specs.Ends.{EndsIn, end_text}
 use Rattle.qsr_top.specs.Machine.{empty_table}
 use Rattle.qsr_top.specs.Progress.{SentFront, Closes, IsClosed, RunEnded}
 use Rattle.qsr_top.specs.Run.{whole_text, Ran, Reads, Writes}
@@ -23,19 +22,6 @@ reads_cut : (bytes left : Option (List ℕ)) (done : List ScriptLine) (cut : Opt
 reads_cut None left done cut end reads = tt
 reads_cut (Some bytes) None done cut end reads = reads
 reads_cut (Some bytes) (Some left) done cut end reads = (reads.0, tt)
-
--- the cause of an end at which the sink failed
-pub caused_cut : (end : End) (disk disk' source source' sink sink' sink'' : ℕ) → (end ≡ SinkFault → ⊥) → CausedBy end disk disk' source source' sink sink' → RoseByOne sink' sink''
-    → CausedBy SinkFault disk disk' source source' sink sink''
-caused_cut Finished disk disk' source source' sink sink' sink'' goes cause rose = (inl cause.0, inl cause.1, subst (λ (sink : ℕ). RoseByOne sink sink'') cause.2 rose)
-caused_cut BadLine disk disk' source source' sink sink' sink'' goes cause rose = (inl cause.0, inl cause.1, subst (λ (sink : ℕ). RoseByOne sink sink'') cause.2 rose)
-caused_cut NoMemory disk disk' source source' sink sink' sink'' goes cause rose = (inl cause.0, inl cause.1, subst (λ (sink : ℕ). RoseByOne sink sink'') cause.2 rose)
-caused_cut DiskFault disk disk' source source' sink sink' sink'' goes cause rose = (inr cause.0, inl cause.1, subst (λ (sink : ℕ). RoseByOne sink sink'') cause.2 rose)
-caused_cut SourceFault disk disk' source source' sink sink' sink'' goes cause rose = (inl cause.0, inr cause.1, subst (λ (sink : ℕ). RoseByOne sink sink'') cause.2 rose)
-caused_cut SinkFault disk disk' source source' sink sink' sink'' goes cause rose = absurd (goes refl)
-caused_cut Usage disk disk' source source' sink sink' sink'' goes cause rose = absurd cause
-caused_cut Refused disk disk' source source' sink sink' sink'' goes cause rose = absurd cause
-caused_cut NotStore disk disk' source source' sink sink' sink'' goes cause rose = absurd cause
 
 -- what the sink didn't cut off is what the run has written
 writes_whole : (left left' : Option (List ℕ)) (done : List ScriptLine) (cut : Option ScriptLine) (said : List ℕ) (end : End) (text : List ℕ) → (end ≡ SinkFault → ⊥)

@@ -10,7 +10,7 @@ use Rattle.qsr_value.specs.Causes.{count_behind}
 use Rattle.qsr_top.specs.declared.end.End.{End}
 use Rattle.qsr_top.specs.declared.end.End.TheVariants.{Finished, BadLine, Usage, Refused, NotStore, DiskFault, SourceFault, SinkFault, NoMemory}
 use Rattle.qsr_top.specs.declared.line_buffer.TheConstants.{MAX_LINE}
-use Rattle.qsr_top.specs.declared.next_line.NextLine.TheVariants.{Whole, TooLong, Unended, End as NextEnd}
+use Rattle.qsr_top.specs.declared.next_line.NextLine.TheVariants.{Whole, TooLong, Unended}
 use Rattle.qsr_top.specs.declared.reply.Reply.TheVariants.{BadLine as BadLineReply}
 use Rattle.qsr_top.specs.declared.script.TheConstants.{MAX_LINES}
 use Rattle.qsr_top.specs.declared.script_line.ScriptLine.{ScriptLine}
@@ -188,23 +188,6 @@ EndsBy-bad size input left given held served table begins source first done answ
         whole = append-nil (answers ++ text_of (BadLineReply (served + 1))) ∙ ap (λ n. answers ++ text_of (BadLineReply (n + 1))) (sym counts);
       });
     })
-
--- the input is at its end
-end_reads : (bytes left : Option (List ℕ)) (held : List ℕ) (done : List ScriptLine)
-    → IsAtTold bytes (prepend_known held left) done → IsNextTold NextEnd held left → Reads bytes left done None Finished
-end_reads None left held done at next = tt
-end_reads (Some bytes) None held done at next = absurd at
-end_reads (Some bytes) (Some left) [] done at next =
-    (front_of_script bytes left done at, (let before = at.lines in let none = ap (λ unread. length (lines_of unread)) next in omega (arith, before, none), next))
-end_reads (Some bytes) (Some left) (byte ∷ held) done at next = cc
-
-pub EndsBy-end : (size : ℕ) (input : List ℕ) (left given : Option (List ℕ)) (held : List ℕ) (served : ℕ) (table : Table)
-    → IsNextTold NextEnd input left → EndsBy size (prepend_known input left) given held served table left None [] Finished given held
-EndsBy-end size input left given held served table next source first done answers at = between (record {
-  ends = refl;
-  reads = end_reads source left input done at.input next;
-  says = inl (record { text = answers; sent = at.sent; whole = refl });
-})
 
 -- the answers are sent, and the input is read on
 IsAtTold-read : (bytes unread read : Option (List ℕ)) (done : List ScriptLine) → IsAtTold bytes unread done → Keeps unread read → IsAtTold bytes read done

@@ -6,8 +6,7 @@ use Rattle.qsr_top.specs.declared.end.End.{End}
 use Rattle.qsr_top.specs.declared.end.End.TheVariants.{NoMemory}
 use Rattle.qsr_top.specs.declared.told.Told.{Told}
 use Rattle.qsr_top.specs.Ends.{end_text}
-use Rattle.qsr_top.specs.Formats.{IsTold}
-use Rattle.qsr_top.specs.Told.{IsToldOr, TakesMemory, told_end, told_text}
+use Rattle.qsr_top.specs.Told.{IsTold, IsToldOr, TakesMemory, told_end, told_text}
 
 -- a line that takes no memory
 pub told_plainly : (name : List ℕ) (told is : Told) (end : End) (given given' : Option (List ℕ)) (faults faults' : ℕ) → told ≡ is

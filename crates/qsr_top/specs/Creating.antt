@@ -3,13 +3,10 @@ use Rattle.std.specs.Prelude.{◌≡◌, ℕ, List, Option, Some, None, ⊤}
 use Rattle.disk_model.specs.Image.{Image}
 use Rattle.disk_model.specs.View.{View}
 use Rattle.page_store.specs.Store.{Contents, twin_page}
-use Rattle.page_store.specs.declared.fault.StoreFault.{StoreFault}
-use Rattle.page_store.specs.declared.fault.StoreFault.TheVariants as stores
 use Rattle.page_store.specs.declared.pages.Sizes.{Sizes}
 use Rattle.qsr_value.specs.declared.schema.Column.{Column}
 use Rattle.table_file.specs.Refusals.{HasNoCatalogue, create_refusal}
 use Rattle.table_file.specs.Tables.{AreTables, Tables, names_of, with_table}
-use Rattle.table_file.specs.declared.fault.TableFault.{TableFault}
 use Rattle.table_file.specs.declared.fault.TableFault.TheVariants as faults
 use Rattle.qsr_top.specs.declared.end.End.{End}
 use Rattle.qsr_top.specs.declared.told.Told.{Told}
@@ -40,23 +37,6 @@ Creates size sizes s name columns disk TableFull = ⊥
 Creates size sizes s name columns disk (BadLine number) = ⊥
 Creates size sizes s name columns disk (NotStore page) = ⊥
 Creates size sizes s name columns disk SourceFault = ⊥
-
--- what is told of a fault of the store that is opened · of a call on its tables
-abbrev pub told_of_opening : StoreFault → Told
-told_of_opening (stores.TooSmall need have) = DiskFault
-told_of_opening (stores.NotStore page) = NotStore page
-told_of_opening stores.Failed = DiskFault
-
-abbrev pub told_of_fault : TableFault → Told
-told_of_fault faults.Exists = Exists
-told_of_fault faults.CatalogFull = CatalogueFull
-told_of_fault (faults.RowTooWide bytes) = RowTooWide bytes
-told_of_fault faults.NoTable = NoTable
-told_of_fault (faults.BadField line column) = BadField line column
-told_of_fault faults.TableFull = TableFull
-told_of_fault (faults.NotStore page) = NotStore page
-told_of_fault faults.Failed = DiskFault
-told_of_fault faults.Memory = NoMemory
 
 -- what is told of an open store of these sizes: that it is none, only where its catalogue is none
 abbrev pub IsToldOfCatalogue : Sizes → Type 0 → Contents → Told → Type 0

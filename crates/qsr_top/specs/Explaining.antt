@@ -29,11 +29,9 @@ use Rattle.qsr_top.specs.declared.told.Told.{Told}
 use Rattle.qsr_top.specs.declared.told.Told.TheVariants as told
 use Rattle.qsr_top.specs.Creating.{IsToldOfDisk}
 use Rattle.qsr_top.specs.Ends.{end_text}
-use Rattle.qsr_top.specs.Formats.{IsTold}
-use Rattle.qsr_top.specs.Lines.{InputLine, lines_of}
-use Rattle.qsr_top.specs.Loading.{text_of_line}
+use Rattle.qsr_top.specs.Lines.{InputLine, lines_of, text_of_line}
 use Rattle.qsr_top.specs.Stored.{IsNotStored, StandsFor}
-use Rattle.qsr_top.specs.Told.{IsToldOr, ToldCause}
+use Rattle.qsr_top.specs.Told.{IsTold, IsToldOr, ToldCause}
 
 -- ---- the input
 
@@ -61,8 +59,7 @@ abbrev pub IsOnlyLine : Option (List ℕ) → Result (List ℕ) ℕ → Type 0
 IsOnlyLine None read = ⊤
 IsOnlyLine (Some bytes) read = only_line (lines_of bytes) ≡ read
 
--- Of what is told in the place of an answer: a bad line is told exactly where the input has one, by its number; or a call has
--- failed.
+-- Of what is told in the place of the line: a bad line is told only where the input has it, by its number; or a call has failed.
 abbrev pub IsNoLine : (Result (List ℕ) ℕ → Type 0) → Told → Type 0
 IsNoLine reads (told.BadLine number) = reads (Err number)
 IsNoLine reads told.DiskFault = ⊤
@@ -149,35 +146,45 @@ table_of_entry entry = record { name = entry.name; columns = entry.schema }
 abbrev pub GivesTables : Tables → Result (List NamedTable) Told → Type 0
 GivesTables s result = MatchResult result (λ tables. tables ≡ tables_of s) (λ fault. (fault ≡ told.DiskFault) ⊎ (fault ≡ told.NoMemory))
 
--- The input was read to its end, and its one line is answered so over these tables.
-pub record HasAnswered (s : Tables) (left left' : Option (List ℕ)) (answer : QueryAnswer) : Type 0 where
-  pub text : List ℕ
-  pub input : IsOnlyLine left (Ok text)
-  pub end : IsAtEnd left'
-  pub answers : AnswersText (tables_of s) text answer
-
--- What `explain` comes to over a disk that stands for these tables: the answer to its one line, or what is told in the place
--- of one.
-abbrev pub Explains : Tables → Option (List ℕ) → Option (List ℕ) → Result QueryAnswer Told → Type 0
-Explains s left left' (Ok answer) = HasAnswered s left left' answer
-Explains s left left' (Err told) = IsNoLine (IsOnlyLine left) told
+-- What is told where the tables of a disk aren't read: that no store with a catalogue stands there, or the disk failed or memory
+-- was wanting.
+abbrev pub IsStoreFault : Told → Type 0
+IsStoreFault (told.NotStore page) = ⊤
+IsStoreFault told.DiskFault = ⊤
+IsStoreFault told.NoMemory = ⊤
+IsStoreFault told.Created = ⊥
+IsStoreFault (told.Loaded rows) = ⊥
+IsStoreFault told.Exists = ⊥
+IsStoreFault (told.RowTooWide bytes) = ⊥
+IsStoreFault told.CatalogueFull = ⊥
+IsStoreFault told.NoTable = ⊥
+IsStoreFault (told.BadField line column) = ⊥
+IsStoreFault told.TableFull = ⊥
+IsStoreFault (told.BadLine number) = ⊥
+IsStoreFault told.SourceFault = ⊥
 
 -- What is told of a disk on which no store with a catalogue stands, whatever the input is.
 abbrev pub IsUnstored : {X : Type 0} → Result X Told → Type 0
 IsUnstored (Ok x) = ⊥
-IsUnstored (Err (told.NotStore page)) = ⊤
-IsUnstored (Err told.DiskFault) = ⊤
-IsUnstored (Err told.NoMemory) = ⊤
-IsUnstored (Err told.Created) = ⊥
-IsUnstored (Err (told.Loaded rows)) = ⊥
-IsUnstored (Err told.Exists) = ⊥
-IsUnstored (Err (told.RowTooWide bytes)) = ⊥
-IsUnstored (Err told.CatalogueFull) = ⊥
-IsUnstored (Err told.NoTable) = ⊥
-IsUnstored (Err (told.BadField line column)) = ⊥
-IsUnstored (Err told.TableFull) = ⊥
-IsUnstored (Err (told.BadLine number)) = ⊥
-IsUnstored (Err told.SourceFault) = ⊥
+IsUnstored (Err fault) = IsStoreFault fault
+
+-- The input was read to its end, and its one line is answered so over these tables.
+pub record HasAnswered (tables : List NamedTable) (left left' : Option (List ℕ)) (answer : QueryAnswer) : Type 0 where
+  pub text : List ℕ
+  pub input : IsOnlyLine left (Ok text)
+  pub end : IsAtEnd left'
+  pub answers : AnswersText tables text answer
+
+-- What `explain` comes to over these tables, whatever the disk is: the answer to its one line; or what is told where no tables
+-- or no line are read.
+abbrev pub Explains : List NamedTable → Option (List ℕ) → Option (List ℕ) → Result QueryAnswer Told → Type 0
+Explains tables left left' (Ok answer) = HasAnswered tables left left' answer
+Explains tables left left' (Err fault) = IsStoreFault fault ⊎ IsNoLine (IsOnlyLine left) fault
+
+-- The tables of an answer are those of the store, and it isn't told that there is no store.
+abbrev pub AreStored : Tables → List NamedTable → Result QueryAnswer Told → Type 0
+AreStored s tables (Ok answer) = tables ≡ tables_of s
+AreStored s tables (Err fault) = (page : ℕ) → fault ≡ told.NotStore page → ⊥
 
 -- an answer is told, or there was no memory for its line; or what is told in its place
 abbrev pub IsExplained : Result QueryAnswer Told → End → Option (List ℕ) → Option (List ℕ) → ℕ → ℕ → Type 0
@@ -191,12 +198,17 @@ abbrev pub ExplainCause : Result QueryAnswer Told → ℕ → ℕ → ℕ → �
 ExplainCause result disk disk' source source' =
     MatchResult result (λ answer. (disk' ≡ disk) × (source' ≡ source)) (λ told. ToldCause told disk disk' source source')
 
--- What `explain` comes to, by what is told and its cause.
+-- What `explain` comes to. Over any disk it is the answer to the one line of the input over some tables, or what is told in the
+-- place of one, and its cause. Over an honest disk that stands for tables, those of an answer are these, and it isn't told that
+-- there is no store; over an honest disk on which no store with a catalogue stands, nothing is answered.
 pub record ComesToExplain (size : ℕ) (left left' : Option (List ℕ)) (disk : View Image) (faults faults' source source' : ℕ) (result : Result QueryAnswer Told) : Type 0 where
+  -- those of the answer; where there is none, any
+  pub tables : List NamedTable
+  pub explains : Explains tables left left' result
   pub cause : ExplainCause result faults faults' source source'
   pub of_disk : IfErr result (IsToldOfDisk size disk)
+  pub stored : (sizes : Sizes) (s : Tables) → AreTables sizes s → StandsFor size sizes s disk → disk.honest → AreStored s tables result
   pub unstored : (page : ℕ) → disk.honest → IsNotStored size page disk.seen → IsUnstored result
-  pub explains : (sizes : Sizes) (s : Tables) → AreTables sizes s → StandsFor size sizes s disk → disk.honest → Explains s left left' result
 
 -- A run of `explain` over a disk of so many bytes, by the source, the disk, what the sink had been given and has, and the counts
 -- of faults.

@@ -1,7 +1,6 @@
 -- What `format` says and leaves.
-use Rattle.std.specs.Prelude.{◌≡◌, ◌⊎◌, ℕ, ◌*◌, ◌<◌, ◌≤◌, List, ◌++◌, sum, Option, codes}
+use Rattle.std.specs.Prelude.{◌≡◌, ℕ, ◌*◌, ◌<◌, ◌≤◌, List, ◌++◌, sum, Option, codes}
 use Rattle.std.specs.Fmt.{decimal}
-use Rattle.std.specs.Io.KnownBytes.{Appends}
 use Rattle.disk_model.specs.Image.{Image}
 use Rattle.disk_model.specs.View.{View, EachImage}
 use Rattle.page_store.specs.Format.{IsNew}
@@ -11,11 +10,11 @@ use Rattle.table_file.specs.Tables.{no_tables}
 use Rattle.qsr_top.specs.Stored.{StandsFor}
 use Rattle.page_store.specs.PageOrder.{parts}
 use Rattle.page_store.specs.declared.pages.Sizes.{Sizes}
-use Rattle.qsr_io.specs.Given.{GivesFront}
 use Rattle.qsr_value.specs.Causes.{RoseByOne}
 use Rattle.qsr_top.specs.declared.end.End.{End}
 use Rattle.qsr_top.specs.declared.end.End.TheVariants.{Finished, BadLine, Usage, Refused, NotStore, DiskFault, SourceFault, SinkFault, NoMemory}
 use Rattle.qsr_top.specs.Ends.{end_text}
+use Rattle.qsr_top.specs.Told.{IsTold}
 
 -- how many bytes a store of these sizes needs
 abbrev pub bytes_needed : Sizes → ℕ
@@ -69,11 +68,6 @@ FormatCause BadLine old new = ⊥
 FormatCause Usage old new = ⊥
 FormatCause SourceFault old new = ⊥
 FormatCause SinkFault old new = ⊥
-
--- A text was written, and its end is answered; or the sink failed within the text.
-abbrev pub IsTold : List ℕ → End → End → Option (List ℕ) → Option (List ℕ) → ℕ → ℕ → Type 0
-IsTold text told end given given' faults faults' =
-    ((end ≡ told) × Appends given given' text × (faults' ≡ faults)) ⊎ ((end ≡ SinkFault) × GivesFront given given' text × RoseByOne faults faults')
 
 -- A run of `format` over a disk of so many bytes, by what the sink had been given and has, the disk, and the counts of
 -- faults of the disk and the sink.

@@ -1,5 +1,6 @@
 -- An input as lines, each ended by an LF but for the last one, which may lack it.
 use Rattle.std.specs.Prelude.{ℕ, Bool, true, false, ◌==◌, List, [], ◌∷◌, if◌then◌else◌}
+use Rattle.qsr_top.specs.Grammar.{without_cr}
 
 pub record InputLine : Type 0 where
   -- without the LF
@@ -13,6 +14,10 @@ whole text = record { text = text; ended = true }
 
 abbrev pub unended : List ℕ → InputLine
 unended text = record { text = text; ended = false }
+
+-- the text of a line: where an LF ends it, one CR before that isn't of it
+abbrev pub text_of_line : InputLine → List ℕ
+text_of_line line = if line.ended then without_cr line.text else line.text
 
 -- the lines of an input that has one more byte in front, which is no LF
 abbrev pub longer : ℕ → List InputLine → List InputLine

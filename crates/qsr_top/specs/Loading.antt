@@ -17,14 +17,9 @@ use Rattle.qsr_top.specs.declared.script.TheConstants.{MAX_LINES}
 use Rattle.qsr_top.specs.declared.told.Told.{Told}
 use Rattle.qsr_top.specs.declared.told.Told.TheVariants.{Created, Loaded, Exists, RowTooWide, CatalogueFull, NoTable, BadField, TableFull, BadLine, NotStore, DiskFault, SourceFault, NoMemory}
 use Rattle.qsr_top.specs.Creating.{IsToldOfDisk}
-use Rattle.qsr_top.specs.Grammar.{without_cr}
-use Rattle.qsr_top.specs.Lines.{InputLine, lines_of}
+use Rattle.qsr_top.specs.Lines.{InputLine, lines_of, text_of_line}
 use Rattle.qsr_top.specs.Stored.{StandsFor}
 use Rattle.qsr_top.specs.Told.{IsToldOr, ToldCause}
-
--- the text of a line: where an LF ends it, one CR before that isn't of it
-abbrev pub text_of_line : InputLine → List ℕ
-text_of_line line = if line.ended then without_cr line.text else line.text
 
 abbrev pub as_field : ℕ → Result (List Value) ℕ → Result (List Value) Told
 as_field number (Ok row) = Ok row

@@ -1,13 +1,18 @@
 -- What is told of a command on tables: its line, the end of the run, and its cause.
 use Rattle.std.specs.Prelude.{◌≡◌, ◌⊎◌, ℕ, List, ◌++◌, Option, codes, ⊤}
 use Rattle.std.specs.Fmt.{decimal}
+use Rattle.std.specs.Io.KnownBytes.{Appends}
+use Rattle.page_store.specs.declared.fault.StoreFault.{StoreFault}
+use Rattle.page_store.specs.declared.fault.StoreFault.TheVariants as stores
+use Rattle.qsr_io.specs.Given.{GivesFront}
 use Rattle.qsr_value.specs.Causes.{RoseByOne}
+use Rattle.table_file.specs.declared.fault.TableFault.{TableFault}
+use Rattle.table_file.specs.declared.fault.TableFault.TheVariants as faults
 use Rattle.qsr_top.specs.declared.end.End.{End}
 use Rattle.qsr_top.specs.declared.end.End.TheVariants as ends
 use Rattle.qsr_top.specs.declared.told.Told.{Told}
 use Rattle.qsr_top.specs.declared.told.Told.TheVariants.{Created, Loaded, Exists, RowTooWide, CatalogueFull, NoTable, BadField, TableFull, BadLine, NotStore, DiskFault, SourceFault, NoMemory}
 use Rattle.qsr_top.specs.Ends.{end_text}
-use Rattle.qsr_top.specs.Formats.{IsTold}
 
 -- its line, of a command on the table of this name
 abbrev pub told_text : List ℕ → Told → List ℕ
@@ -56,12 +61,34 @@ TakesMemory DiskFault = ⊥
 TakesMemory SourceFault = ⊥
 TakesMemory NoMemory = ⊥
 
+-- A text was written, and its end is answered; or the sink failed within the text.
+abbrev pub IsTold : List ℕ → End → End → Option (List ℕ) → Option (List ℕ) → ℕ → ℕ → Type 0
+IsTold text told end given given' faults faults' =
+    ((end ≡ told) × Appends given given' text × (faults' ≡ faults)) ⊎ ((end ≡ ends.SinkFault) × GivesFront given given' text × RoseByOne faults faults')
+
 -- Its line was written and its end is answered, or the sink failed within it; or there was no memory for the line, and that
 -- is told so.
 abbrev pub IsToldOr : List ℕ → Told → End → Option (List ℕ) → Option (List ℕ) → ℕ → ℕ → Type 0
 IsToldOr name told end given given' faults faults' =
     IsTold (told_text name told) (told_end told) end given given' faults faults'
     ⊎ (TakesMemory told × IsTold (end_text ends.NoMemory) ends.NoMemory end given given' faults faults')
+
+-- what is told of a fault of the store that is opened · of a call on its tables
+abbrev pub told_of_opening : StoreFault → Told
+told_of_opening (stores.TooSmall need have) = DiskFault
+told_of_opening (stores.NotStore page) = NotStore page
+told_of_opening stores.Failed = DiskFault
+
+abbrev pub told_of_fault : TableFault → Told
+told_of_fault faults.Exists = Exists
+told_of_fault faults.CatalogFull = CatalogueFull
+told_of_fault (faults.RowTooWide bytes) = RowTooWide bytes
+told_of_fault faults.NoTable = NoTable
+told_of_fault (faults.BadField line column) = BadField line column
+told_of_fault faults.TableFull = TableFull
+told_of_fault (faults.NotStore page) = NotStore page
+told_of_fault faults.Failed = DiskFault
+told_of_fault faults.Memory = NoMemory
 
 -- the count of faults of the disk or the source rose by one where its fault is told, and else each stood
 abbrev pub ToldCause : Told → ℕ → ℕ → ℕ → ℕ → Type 0

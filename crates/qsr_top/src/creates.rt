@@ -6,7 +6,7 @@ ghost use Rattle.page_store.specs.Store.{IsReady, contents_view, store_view};
 ghost use Rattle.page_store.specs.declared.pages.Sizes.{Sizes};
 ghost use Rattle.table_file.specs.CatalogueBytes.{IsColumn, IsName};
 ghost use Rattle.table_file.specs.Tables.{AreTables, OnlyTables, Tables, with_table};
-ghost use Rattle.qsr_top.specs.Creating.{ComesToCreate, CreateRan, Creates, IsToldOfCatalogue, told_of_fault, told_of_opening};
+ghost use Rattle.qsr_top.specs.Creating.{ComesToCreate, CreateRan, Creates, IsToldOfCatalogue};
 ghost use Rattle.qsr_value.specs.declared.schema.Column.{Column};
 ghost use Rattle.qsr_top.specs.Ends.{StatusCause, status_of};
 ghost use Rattle.qsr_top.specs.Stored.{Stands, StandsFor};
@@ -15,13 +15,13 @@ ghost use Rattle.qsr_top.specs.Words.{command_of, named_columns, named_table};
 
 use crate::command::{Command, schema_of};
 use crate::end::End;
-use crate::told::Told;
+use crate::told::{Told, told_of_fault, told_of_opening};
 use disk_model::Disk;
-use page_store::{Store, StoreFault};
+use page_store::Store;
 use qsr_io::Sink;
 use qsr_value::{Memory, Schema};
 use std::alloc::Global;
-use table_file::{Catalogue, TableFault};
+use table_file::Catalogue;
 
 /// Creates the table that the words name, and says what came of it.
 pub fn run<D: Disk, K: Sink>(alloc: Global, words: &[String], disk: &mut D, sink: &mut K) -> End
@@ -72,33 +72,6 @@ fn create<D: Disk>(alloc: Global, name: &str, schema: Schema, disk: &mut D) -> T
     match Store::open(disk) {
         Ok(mut store) => create_in(alloc, name, schema, &mut store),
         Err(unopened) => told_of_opening(unopened.fault),
-    }
-}
-
-/// What is told of a store that isn't opened.
-pub fn told_of_opening(fault: StoreFault) -> Told
-    ensures { result ≡ told_of_opening fault }
-{
-    match fault {
-        StoreFault::NotStore { page } => Told::NotStore { page },
-        StoreFault::Failed | StoreFault::TooSmall { .. } => Told::DiskFault,
-    }
-}
-
-/// What is told of a fault of a call on tables.
-pub fn told_of_fault(fault: TableFault) -> Told
-    ensures { result ≡ told_of_fault fault }
-{
-    match fault {
-        TableFault::Exists => Told::Exists,
-        TableFault::CatalogFull => Told::CatalogueFull,
-        TableFault::RowTooWide { bytes } => Told::RowTooWide { bytes },
-        TableFault::NoTable => Told::NoTable,
-        TableFault::BadField { line, column } => Told::BadField { line, column },
-        TableFault::TableFull => Told::TableFull,
-        TableFault::NotStore { page } => Told::NotStore { page },
-        TableFault::Failed => Told::DiskFault,
-        TableFault::Memory => Told::NoMemory,
     }
 }
 

@@ -1,21 +1,20 @@
 ghost use Rattle.std.specs.Prelude.{◌≡◌, ◌<◌, ℕ, IfErr, IfOk, MatchResult, Some, length, map, slice_get};
-ghost use Rattle.disk_model.specs.View.{EachImage, Stays};
-ghost use Rattle.page_store.specs.Store.{contents_view, store_view};
+ghost use Rattle.disk_model.specs.View.{Stays};
+ghost use Rattle.page_store.specs.Store.{store_view};
 ghost use Rattle.page_store.specs.declared.pages.Sizes.{Sizes};
 ghost use Rattle.table_file.specs.CatalogueBytes.{IsOfStore};
 ghost use Rattle.table_file.specs.Refusals.{HasNoCatalogue};
 ghost use Rattle.table_file.specs.Tables.{AreTables, HasTables, Tables};
 ghost use Rattle.qsr_top.specs.Creating.{IsToldOfCatalogue, IsToldOfDisk};
 ghost use Rattle.qsr_top.specs.Ends.{StatusCause, status_of};
-ghost use Rattle.qsr_top.specs.Explaining.{ComesToExplain, ExplainRan, GivesTables, IsUnstored, table_of_entry};
+ghost use Rattle.qsr_top.specs.Explaining.{ComesToExplain, ExplainRan, GivesTables, IsStoreFault, IsUnstored, table_of_entry};
 ghost use Rattle.qsr_top.specs.Stored.{IsNotStored, StandsFor};
 ghost use Rattle.qsr_top.specs.Told.{ToldCause};
 
-use crate::creates::{told_of_fault, told_of_opening};
 use crate::end::End;
 use crate::one_line::one_line;
 use crate::query_answer::{QueryAnswer, answer_to};
-use crate::told::{Told, say_line};
+use crate::told::{Told, say_line, told_of_fault, told_of_opening};
 use disk_model::Disk;
 use page_store::Store;
 use qsr_io::{Sink, Source};
@@ -34,8 +33,7 @@ pub fn run<D: Disk, S: Source, K: Sink>(
     ensures ran { ExplainRan (D.size_of disk.old) (S.left source.old) (S.left source.new) (D.view disk.old) (K.given sink.old) (K.given sink.new)
         (D.faults_of disk.old) (D.faults_of disk.new) (S.faults_of source.old) (S.faults_of source.new) (K.faults_of sink.old) (K.faults_of sink.new) result }
     ensures cause { StatusCause (status_of result) (D.faults_of disk.old) (D.faults_of disk.new) (S.faults_of source.old) (S.faults_of source.new) (K.faults_of sink.old) (K.faults_of sink.new) }
-    ensures stays { (sizes : Sizes) → EachImage (contents_view sizes (D.view disk.old)) (λ m. m.head ≡ Some sizes) → (D.view disk.old).honest
-        → Stays (contents_view sizes (D.view disk.old)) (contents_view sizes (D.view disk.new)) }
+    ensures stays { Stays (D.view disk.old) (D.view disk.new) }
     ensures writes { D.writes_of disk.new ≡ D.writes_of disk.old }
 {
     match explain(alloc, disk, source) {
@@ -52,27 +50,23 @@ fn explain<D: Disk, S: Source>(
 ) -> Result<QueryAnswer, Told>
     ensures comes { ComesToExplain (D.size_of disk.old) (S.left source.old) (S.left source.new) (D.view disk.old)
         (D.faults_of disk.old) (D.faults_of disk.new) (S.faults_of source.old) (S.faults_of source.new) result }
-    ensures stays { (sizes : Sizes) → EachImage (contents_view sizes (D.view disk.old)) (λ m. m.head ≡ Some sizes) → (D.view disk.old).honest
-        → Stays (contents_view sizes (D.view disk.old)) (contents_view sizes (D.view disk.new)) }
+    ensures stays { Stays (D.view disk.old) (D.view disk.new) }
     ensures writes { D.writes_of disk.new ≡ D.writes_of disk.old }
 {
     let tables = stored_tables(alloc, disk)?;
     let line = one_line(alloc, source)?;
-    match answer_to(alloc, line.as_str(), &tables) {
-        Ok(answer) => Ok(answer),
-        Err(Memory) => Err(Told::NoMemory),
-    }
+    Ok(answer_to(alloc, line.as_str(), &tables)?)
 }
 
 /// The tables of the store on a disk, as queries may name them.
 fn stored_tables<D: Disk>(alloc: Global, disk: &mut D) -> Result<Names, Told>
     ensures tables { (sizes : Sizes) (s : Tables) → AreTables sizes s → StandsFor (D.size_of disk.old) sizes s (D.view disk.old) → (D.view disk.old).honest → GivesTables s result }
+    ensures fault { IfErr result IsStoreFault }
     ensures none { IfErr result (IsToldOfDisk (D.size_of disk.old) (D.view disk.old)) }
     ensures unstored { (page : ℕ) → (D.view disk.old).honest → IsNotStored (D.size_of disk.old) page (D.view disk.old).seen → IsUnstored result }
     ensures cause { MatchResult result (λ _. D.faults_of disk.new ≡ D.faults_of disk.old)
         (λ told. (source : ℕ) → ToldCause told (D.faults_of disk.old) (D.faults_of disk.new) source source) }
-    ensures stays { (sizes : Sizes) → EachImage (contents_view sizes (D.view disk.old)) (λ m. m.head ≡ Some sizes) → (D.view disk.old).honest
-        → Stays (contents_view sizes (D.view disk.old)) (contents_view sizes (D.view disk.new)) }
+    ensures stays { Stays (D.view disk.old) (D.view disk.new) }
     ensures writes { D.writes_of disk.new ≡ D.writes_of disk.old }
 {
     match Store::open(disk) {
@@ -85,11 +79,12 @@ fn stored_tables<D: Disk>(alloc: Global, disk: &mut D) -> Result<Names, Told>
 fn tables_in<D: Disk>(alloc: Global, store: &mut Store<'_, D>) -> Result<Names, Told>
     ensures tables { (s : Tables) → AreTables store.old.sizes s → ((store_view store.old).honest → HasTables s (store_view store.old).seen) → (store_view store.old).honest
         → GivesTables s result }
+    ensures fault { IfErr result IsStoreFault }
     ensures none { IfErr result (IsToldOfCatalogue store.old.sizes ((store_view store.old).honest) ((store_view store.old).seen)) }
     ensures unstored { (store_view store.old).honest → HasNoCatalogue store.old.sizes (store_view store.old).seen → IsUnstored result }
     ensures cause { MatchResult result (λ _. D.faults_of store.new.disk.now ≡ D.faults_of store.old.disk.now)
         (λ told. (source : ℕ) → ToldCause told (D.faults_of store.old.disk.now) (D.faults_of store.new.disk.now) source source) }
-    ensures stays { Stays (store_view store.old) (store_view store.new) }
+    ensures stays { Stays (D.view store.old.disk.now) (D.view store.new.disk.now) }
     ensures sizes { store.new.sizes ≡ store.old.sizes }
     ensures same { store.new.disk.ghost_name ≡ store.old.disk.ghost_name }
     ensures writes { D.writes_of store.new.disk.now ≡ D.writes_of store.old.disk.now }
@@ -98,10 +93,7 @@ fn tables_in<D: Disk>(alloc: Global, store: &mut Store<'_, D>) -> Result<Names, 
         Ok(catalogue) => catalogue,
         Err(fault) => return Err(told_of_fault(fault)),
     };
-    match named_tables(alloc, &catalogue) {
-        Ok(tables) => Ok(tables),
-        Err(Memory) => Err(Told::NoMemory),
-    }
+    Ok(named_tables(alloc, &catalogue)?)
 }
 
 /// The tables of a catalogue, as queries may name them.

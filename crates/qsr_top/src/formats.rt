@@ -4,7 +4,7 @@ ghost use Rattle.disk_model.specs.View.{LeavesOnly};
 ghost use Rattle.page_store.specs.Format.{IsOldNoneOrNew};
 ghost use Rattle.page_store.specs.PageOrder.{AreSizes};
 ghost use Rattle.qsr_top.specs.Ends.{end_text};
-ghost use Rattle.qsr_top.specs.Formats.{Formatted, IsTold, bytes_needed, formatted_text, too_small_text};
+ghost use Rattle.qsr_top.specs.Formats.{Formatted, bytes_needed, formatted_text, too_small_text};
 
 use crate::end::End;
 use crate::told::{say, tell};

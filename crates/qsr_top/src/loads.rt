@@ -24,13 +24,12 @@ ghost use Rattle.qsr_top.specs.declared.line_buffer.TheConstants.{MAX_LINE};
 ghost use Rattle.qsr_top.specs.declared.script.TheConstants.{MAX_LINES};
 
 use crate::command::Command;
-use crate::creates::{told_of_fault, told_of_opening};
 use crate::end::End;
 use crate::line_buffer::LineBuffer;
 use crate::next_line::NextLine;
 use crate::script::MAX_LINES;
 use crate::script_line::without_cr;
-use crate::told::Told;
+use crate::told::{Told, told_of_fault, told_of_opening};
 use disk_model::Disk;
 use page_store::Store;
 use qsr_io::{Failed, Sink, Source};
@@ -186,10 +185,7 @@ fn read_table<D: Disk, S: Source>(
     ensures sizes { store.new.sizes ≡ store.old.sizes }
     ensures same { store.new.disk.ghost_name ≡ store.old.disk.ghost_name }
 {
-    let mut input = match RowInput::new(alloc) {
-        Ok(input) => input,
-        Err(Memory) => return Err(Told::NoMemory),
-    };
+    let mut input = RowInput::new(alloc)?;
     let mut writer = catalogue.writer(table);
     match input.read_rows(alloc, catalogue.schema(table), store, &mut writer, source) {
         Ok(true) => Err(Told::TableFull),

@@ -12,7 +12,7 @@ use crate::next_line::NextLine;
 use crate::script_line::without_cr;
 use crate::told::Told;
 use qsr_io::{Failed, Source};
-use qsr_value::{Memory, Txt};
+use qsr_value::Txt;
 use std::alloc::Global;
 use std::str;
 
@@ -24,10 +24,7 @@ pub fn one_line<S: Source>(alloc: Global, source: &mut S) -> Result<Txt, Told>
     ensures cause { MatchResult result (λ _. S.faults_of source.new ≡ S.faults_of source.old)
         (λ told. (disk : ℕ) → ToldCause told disk disk (S.faults_of source.old) (S.faults_of source.new)) }
 {
-    let mut lines = match LineBuffer::new(alloc) {
-        Ok(lines) => lines,
-        Err(Memory) => return Err(Told::NoMemory),
-    };
+    let mut lines = LineBuffer::new(alloc)?;
     match next_line(&mut lines, source) {
         Ok(NextLine::Whole { len }) => whole_line(alloc, &mut lines, len, source),
         Ok(NextLine::TooLong) => Err(Told::BadLine { number: 1 }),
@@ -93,8 +90,5 @@ fn owned(alloc: Global, text: &str) -> Result<Txt, Told>
     ensures text { IfOk result (λ same. same ≡ text.now) }
     ensures none { IfErr result (λ told. told ≡ Told.NoMemory) }
 {
-    match Txt::from_str(alloc, text) {
-        Ok(text) => Ok(text),
-        Err(Memory) => Err(Told::NoMemory),
-    }
+    Ok(Txt::from_str(alloc, text)?)
 }

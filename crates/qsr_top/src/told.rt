@@ -1,12 +1,14 @@
 ghost use Rattle.std.specs.Prelude.{◌≡◌, [], IfOk, OnErr};
 ghost use Rattle.std.specs.String.{string_bytes};
 ghost use Rattle.qsr_top.specs.Ends.{end_text};
-ghost use Rattle.qsr_top.specs.Formats.{IsTold};
-ghost use Rattle.qsr_top.specs.Told.{IsToldOr, told_end, told_text};
+ghost use Rattle.qsr_top.specs.Told.{IsTold, IsToldOr, told_end, told_of_fault, told_of_opening, told_text};
 
 use crate::end::End;
+use page_store::StoreFault;
 use qsr_io::{Failed, Sink, put_all};
+use qsr_value::Memory;
 use std::alloc::{AllocError, Global};
+use table_file::TableFault;
 
 /// What is told of a command on tables.
 #[derive(Clone, Copy, Debug, PartialEq, Eq)]
@@ -52,6 +54,44 @@ impl Told {
             Told::SourceFault => tell(End::SourceFault.text(), End::SourceFault, sink),
             Told::NoMemory => tell(End::NoMemory.text(), End::NoMemory, sink),
         }
+    }
+}
+
+impl From<Memory> for Told {
+    ghost use Rattle.std.specs.Prelude.{◌≡◌};
+    ghost use Rattle.qsr_top.specs.declared.told.Told.{Told};
+
+    ghost from_gives = { λ _ told. told ≡ Told.NoMemory };
+
+    fn from(_error: Memory) -> Told {
+        Told::NoMemory
+    }
+}
+
+/// What is told of a store that isn't opened.
+pub fn told_of_opening(fault: StoreFault) -> Told
+    ensures { result ≡ told_of_opening fault }
+{
+    match fault {
+        StoreFault::NotStore { page } => Told::NotStore { page },
+        StoreFault::Failed | StoreFault::TooSmall { .. } => Told::DiskFault,
+    }
+}
+
+/// What is told of a fault of a call on tables.
+pub fn told_of_fault(fault: TableFault) -> Told
+    ensures { result ≡ told_of_fault fault }
+{
+    match fault {
+        TableFault::Exists => Told::Exists,
+        TableFault::CatalogFull => Told::CatalogueFull,
+        TableFault::RowTooWide { bytes } => Told::RowTooWide { bytes },
+        TableFault::NoTable => Told::NoTable,
+        TableFault::BadField { line, column } => Told::BadField { line, column },
+        TableFault::TableFull => Told::TableFull,
+        TableFault::NotStore { page } => Told::NotStore { page },
+        TableFault::Failed => Told::DiskFault,
+        TableFault::Memory => Told::NoMemory,
     }
 }
 

@@ -69,9 +69,9 @@ pub fn qsr_run<D: Disk, S: Source, K: Sink>(
         → D.size_of disk.old < bytes_needed sizes → disk.new ≡ disk.old }
     ensures format_input { (sizes : Sizes) → command_of (map string_bytes words.now) ≡ Some (Command.Format sizes) → input.new ≡ input.old }
 
-    // `create` on a disk that stands for some tables says whether they have the new one, and leaves them with it or as they
-    // were: it is refused exactly where there is a reason for it, the first of which is told. A crash at any moment leaves the
-    // tables with it or without it, and all else of the store as it was. The input isn't read.
+    // `create` on an honest disk that stands for some tables says whether they have the new one, and leaves them with it or as
+    // they were: but for faults and want of memory it is refused exactly where there is a reason, the first of which is told. A
+    // crash at any moment leaves the tables with it or without it, and all else of the store as it was. The input isn't read.
     ensures create { (columns : List Column) → command_of (map string_bytes words.now) ≡ Some Command.Create → named_columns (map string_bytes words.now) ≡ Some columns
         → (end : End) × (result ≡ status_of end) × CreateRan (D.size_of disk.old) (named_table (map string_bytes words.now)) columns (D.view disk.old) (D.view disk.new)
         (K.given out.old) (K.given out.new) (D.faults_of disk.old) (D.faults_of disk.new) (K.faults_of out.old) (K.faults_of out.new) end }
@@ -81,10 +81,10 @@ pub fn qsr_run<D: Disk, S: Source, K: Sink>(
         (λ m. Stands (D.size_of disk.old) sizes s m ⊎ Stands (D.size_of disk.old) sizes (with_table s (named_table (map string_bytes words.now)) columns) m) }
     ensures create_input { command_of (map string_bytes words.now) ≡ Some Command.Create → input.new ≡ input.old }
 
-    // `load` on a disk that stands for some tables says whether the rows of the input are behind those of the table, all of
-    // them, and leaves the tables with them or as they were: refused exactly where there is no such table, where the input has
-    // a bad line or a bad field, the first of which is told, or where the table has no room. A crash at any moment leaves the
-    // tables with all these rows or with none, and all else of the store as it was.
+    // `load` on an honest disk that stands for some tables says whether the rows of the input are behind those of the table, all
+    // of them, and leaves the tables with them or as they were: but for faults and want of memory it is refused exactly where
+    // there is no such table, where the input has a bad line or a bad field, the first of which is told, or where the table has
+    // no room. A crash at any moment leaves the tables with all these rows or with none, and all else of the store as it was.
     ensures load { command_of (map string_bytes words.now) ≡ Some Command.Load
         → (end : End) × (result ≡ status_of end) × LoadRan (D.size_of disk.old) (named_table (map string_bytes words.now)) (S.left input.old) (S.left input.new)
         (D.view disk.old) (D.view disk.new) (K.given out.old) (K.given out.new)
@@ -97,15 +97,17 @@ pub fn qsr_run<D: Disk, S: Source, K: Sink>(
         → AreTables sizes s → StandsFor (D.size_of disk.old) sizes s (D.view disk.old) → (D.view disk.old).honest
         → LeavesOnly (contents_view sizes (D.view disk.old)) (contents_view sizes (D.view disk.new)) (After OnlyTables (contents_view sizes (D.view disk.old))) }
 
-    // `explain` on a disk that stands for some tables answers the one line of the input: that it is no query, in the way in
+    // `explain` answers the one line of the input over some tables, whatever the disk is: that it is no query, in the way in
     // which it is none; that the query is refused over these tables, by the first refusal; or that it isn't, and no plan is
-    // made. It is a bad line exactly where the input isn't one line of UTF-8. The disk is only read.
+    // made. A bad line is told only where the input has it: a second line, or a first one that isn't UTF-8 or has more than 2,048
+    // bytes; and an answer is told only where it has none. Else it is told that there is no store, a fault, or want of memory.
+    // Over an honest disk that stands for tables, those of an answer are these, and it isn't told that there is no store; over
+    // an honest disk on which no store with a catalogue stands, nothing is answered. No write is made, and no crash
+    // leaves what it couldn't have left before.
     ensures explain { command_of (map string_bytes words.now) ≡ Some Command.Explain
         → (end : End) × (result ≡ status_of end) × ExplainRan (D.size_of disk.old) (S.left input.old) (S.left input.new) (D.view disk.old)
         (K.given out.old) (K.given out.new) (D.faults_of disk.old) (D.faults_of disk.new) (S.faults_of input.old) (S.faults_of input.new) (K.faults_of out.old) (K.faults_of out.new) end }
-    ensures explain_disk { (sizes : Sizes) → command_of (map string_bytes words.now) ≡ Some Command.Explain
-        → EachImage (contents_view sizes (D.view disk.old)) (λ m. m.head ≡ Some sizes) → (D.view disk.old).honest
-        → Stays (contents_view sizes (D.view disk.old)) (contents_view sizes (D.view disk.new)) }
+    ensures explain_disk { command_of (map string_bytes words.now) ≡ Some Command.Explain → Stays (D.view disk.old) (D.view disk.new) }
     ensures explain_writes { command_of (map string_bytes words.now) ≡ Some Command.Explain → D.writes_of disk.new ≡ D.writes_of disk.old }
 
     // A fault of the disk, the source or the sink is answered only where that count rose, by one. None is passed over:

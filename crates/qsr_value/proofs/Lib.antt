@@ -5,3 +5,4 @@ pub mod Numbers
 pub mod Orders
 pub mod Readings
 pub mod Uniqueness
+pub mod ValueOrder

@@ -1,5 +1,6 @@
 pub mod Causes
 pub mod Columns
 pub mod Encoding
+pub mod Names
 pub mod Ordered
 pub mod Values

@@ -4,32 +4,25 @@ use Rattle.std.specs.Cmp.Lexicographic.{slice_cmp}
 use Rattle.std.specs.List.{slice_get}
 use Rattle.std.specs.Ordering.{int_cmp, nat_cmp, ordering_reverse, ordering_then}
 use Rattle.std.specs.declared.cmp.Ordering.{Ordering}
-use Rattle.std.specs.declared.cmp.Ordering.TheVariants.{Equal}
+use Rattle.std.specs.declared.cmp.Ordering.TheVariants.{Less, Equal, Greater}
 use Rattle.qsr_value.specs.declared.row.Value.{Value}
 use Rattle.qsr_value.specs.declared.row.Value.TheVariants.{Int, Text}
 use Rattle.qsr_value.specs.declared.compare.SortKey.{SortKey}
 
--- whole numbers by value, and texts by their bytes; values of two kinds are never compared
+-- whole numbers by value, texts by their bytes, and a number before a text
 abbrev pub compare_values : Value → Value → Ordering
 compare_values (Int m) (Int n) = int_cmp m n
 compare_values (Text s) (Text t) = slice_cmp nat_cmp s t
-compare_values (Int m) (Text t) = Equal
-compare_values (Text s) (Int n) = Equal
+compare_values (Int m) (Text t) = Less
+compare_values (Text s) (Int n) = Greater
 
--- two values of one kind
-abbrev pub AreAlike : Value → Value → Type 0
-AreAlike (Int m) (Int n) = ⊤
-AreAlike (Text s) (Text t) = ⊤
-AreAlike (Int m) (Text t) = ⊥
-AreAlike (Text s) (Int n) = ⊥
-
--- two values that are there, of one kind
+-- two values that are there
 abbrev pub AreThere : Option Value → Option Value → Type 0
-AreThere (Some v) (Some w) = AreAlike v w
+AreThere (Some v) (Some w) = ⊤
 AreThere (Some v) None = ⊥
 AreThere None w = ⊥
 
--- each key's column is in both rows, with values of one kind
+-- each key's column is in both rows
 abbrev pub HaveKeys : List SortKey → List Value → List Value → Type 0
 HaveKeys [] a b = ⊤
 HaveKeys (key ∷ keys) a b = AreThere (slice_get a key.column) (slice_get b key.column) × HaveKeys keys a b

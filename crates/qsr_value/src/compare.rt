@@ -1,5 +1,5 @@
 ghost use Rattle.std.specs.Prelude.{◌≡◌, slice_get};
-ghost use Rattle.qsr_value.specs.Ordered.{AreAlike, AreThere, HaveKeys, compare_at, compare_by, compare_values};
+ghost use Rattle.qsr_value.specs.Ordered.{AreThere, HaveKeys, compare_at, compare_by, compare_values};
 
 use crate::{Row, Value};
 use std::cmp::Ordering;
@@ -12,7 +12,7 @@ pub struct SortKey {
 }
 
 /// Compares two rows by the keys in turn: the first key that tells them apart decides. Whole numbers are compared by
-/// value, and texts by their bytes.
+/// value, texts by their bytes, and a number stands before a text. Each key's column has to be in both rows.
 pub fn cmp_by(a: &Row, b: &Row, keys: &[SortKey]) -> Ordering
     requires { HaveKeys keys.now a.now b.now }
     ensures { result ≡ compare_by keys.now a.now b.now }
@@ -39,18 +39,17 @@ fn cmp_at(a: &Row, b: &Row, key: SortKey) -> Ordering
     order
 }
 
-/// Compares two values of one kind.
-fn cmp_values(a: &Value, b: &Value) -> Ordering
-    requires { AreAlike a.now b.now }
+/// Compares two values: whole numbers by value, texts by their bytes, and a number before a text.
+pub fn cmp_values(a: &Value, b: &Value) -> Ordering
     ensures { result ≡ compare_values a.now b.now }
 {
     match a {
         Value::Int(number) => match b {
             Value::Int(other) => number.cmp(other),
-            Value::Text(_) => Ordering::Equal,
+            Value::Text(_) => Ordering::Less,
         },
         Value::Text(text) => match b {
-            Value::Int(_) => Ordering::Equal,
+            Value::Int(_) => Ordering::Greater,
             Value::Text(other) => text.as_str().cmp(other.as_str()),
         },
     }

@@ -21,13 +21,13 @@ mod schema;
 mod tests;
 mod text;
 
-pub use compare::{SortKey, cmp_by};
+pub use compare::{SortKey, cmp_by, cmp_values};
 pub use copies::TryCopy;
 pub use decode::{RowFault, decode_row};
 pub use encode::{NoRoom, encode_row};
 pub use failure::{Failed, Memory};
 pub use kind::ColKind;
-pub use laws::encodings_are_exact;
+pub use laws::{encodings_are_exact, values_are_ordered};
 pub use list::{Bytes, ListOf};
 pub use row::{Row, Value};
 pub use row_sink::{Outside, RowSink};

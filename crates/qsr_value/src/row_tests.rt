@@ -3,7 +3,9 @@
 ghost use Rattle.std.specs.Prelude.{◌≡◌, ◌≤◌, ℕ, ℤ, List, [], ◌∷◌, length, IfOk};
 ghost use Rattle.qsr_value.specs.Ordered.{HaveKeys};
 
-use crate::{ColKind, Column, Memory, Row, Schema, SortKey, TryCopy, Txt, Value, cmp_by};
+use crate::{
+    ColKind, Column, Memory, Row, Schema, SortKey, TryCopy, Txt, Value, cmp_by, cmp_values,
+};
 use std::alloc::Global;
 use std::cmp::Ordering;
 use std::process::Abort;
@@ -242,5 +244,14 @@ fn the_first_key_that_tells_decides(rt: HostRuntime) -> Result<(), Fail> {
         )?;
         is_order(&rt, rt.alloc(), case, &[], Ordering::Equal)?;
     }
+    Ok(())
+}
+
+#[test]
+fn a_number_stands_before_a_text(rt: HostRuntime) -> Result<(), Fail> {
+    let number = Value::Int(i128::MAX);
+    let text = Value::Text(Txt::from_str(rt.alloc(), "")?);
+    assert_eq!(&rt; cmp_values(&number, &text), Ordering::Less);
+    assert_eq!(&rt; cmp_values(&text, &number), Ordering::Greater);
     Ok(())
 }

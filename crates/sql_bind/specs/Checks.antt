@@ -4,7 +4,8 @@ use Rattle.std.specs.Prelude.{ℕ, ◌+◌, ◌&&◌, ◌||◌, Bool, true, fals
 use Rattle.qsr_value.specs.declared.kind.ColKind.{ColKind}
 use Rattle.qsr_value.specs.declared.kind.ColKind.TheVariants as kind
 use Rattle.sql_bind.specs.Bound.{operand_of, same_column, bound_items, item_of_key, key_of_key}
-use Rattle.sql_bind.specs.Names.{Scoped, Refusal, NoTable, Ambiguous, TypeClash, NeedsGroup, NotSelected, UnionClash, is_name, letters, name_of, known_by, known, table_of, table_named, scoped, scope_behind, scope_of, meant, refusal_of, bound_column, place_in_text}
+use Rattle.qsr_value.specs.Names.{is_among}
+use Rattle.sql_bind.specs.Names.{Scoped, Refusal, NoTable, Ambiguous, TypeClash, NeedsGroup, NotSelected, UnionClash, letters, name_of, known_by, known, table_of, table_named, scoped, scope_behind, scope_of, meant, refusal_of, bound_column, place_in_text}
 use Rattle.sql_bind.specs.declared.bound.BoundColumn.{BoundColumn}
 use Rattle.sql_bind.specs.declared.bound.BoundItem.{BoundItem}
 use Rattle.sql_bind.specs.declared.bound.BoundItem.TheVariants as bound_item
@@ -56,10 +57,6 @@ refuse_if false r = None
 abbrev pub is_none : {X : Type 0} → Option X → Bool
 is_none None = true
 is_none (Some x) = false
-
-abbrev pub is_among : List ℕ → List (List ℕ) → Bool
-is_among name [] = false
-is_among name (other ∷ others) = is_name other name || is_among name others
 
 -- a table that there is, and known by no name of those before it
 abbrev pub table_checks : List NamedTable → List (List ℕ) → Table → List (Check Refusal)

@@ -1,6 +1,6 @@
 -- What the names of a query mean: the tables of FROM, which of them are in scope where, and which column a name is.
-use Rattle.std.specs.Prelude.{ℕ, ◌+◌, Bool, true, false, if◌then◌else◌, List, [], ◌∷◌, ◌++◌, nat_eq, Option, Some, None, Result, Ok, Err}
-use Rattle.std.specs.Cmp.Lexicographic.{pointwise}
+use Rattle.std.specs.Prelude.{ℕ, ◌+◌, Bool, true, false, if◌then◌else◌, List, [], ◌∷◌, ◌++◌, Option, Some, None, Result, Ok, Err}
+use Rattle.qsr_value.specs.Names.{same_name}
 use Rattle.qsr_value.specs.declared.kind.ColKind.TheVariants as kind
 use Rattle.qsr_value.specs.declared.schema.Column as table_column
 use Rattle.sql_bind.specs.declared.bound.BoundColumn.{BoundColumn}
@@ -26,15 +26,12 @@ pub data Refusal : Type 0 where
   NotSelected : ℕ → Refusal
   UnionClash : ℕ → Refusal
 
-abbrev pub is_name : List ℕ → List ℕ → Bool
-is_name name other = pointwise nat_eq name other
-
 -- ---- the tables that there are
 
 -- The first table of this name, the first of them being at this place: its place and its columns.
 abbrev pub table_from : ℕ → List NamedTable → List ℕ → Option (ℕ × List table_column.Column)
 table_from place [] name = None
-table_from place (t ∷ ts) name = if is_name t.name name then Some (place, t.columns) else table_from (place + 1) ts name
+table_from place (t ∷ ts) name = if same_name t.name name then Some (place, t.columns) else table_from (place + 1) ts name
 
 abbrev pub table_named : List NamedTable → List ℕ → Option (ℕ × List table_column.Column)
 table_named names name = table_from 0 names name
@@ -105,7 +102,7 @@ scope_of names s = scope_from names 1 (scoped names 0 s.table ∷ []) s.more
 -- the first column of this name, the first of them being at this place of the table at that place of FROM
 abbrev pub column_from : ℕ → ℕ → List table_column.Column → List ℕ → Option BoundColumn
 column_from table place [] name = None
-column_from table place (c ∷ cs) name = if is_name c.name name then Some (record { table = table; place = place; kind = c.kind }) else column_from table (place + 1) cs name
+column_from table place (c ∷ cs) name = if same_name c.name name then Some (record { table = table; place = place; kind = c.kind }) else column_from table (place + 1) cs name
 
 abbrev pub column_in : Scoped → List ℕ → Option BoundColumn
 column_in s name = column_from s.place 0 s.columns name
@@ -127,7 +124,7 @@ only_one (c ∷ d ∷ others) n = Err (Ambiguous n.letters n.at)
 
 abbrev pub table_known : List Scoped → List ℕ → Option Scoped
 table_known [] name = None
-table_known (s ∷ scope) name = if is_name s.known name then Some s else table_known scope name
+table_known (s ∷ scope) name = if same_name s.known name then Some s else table_known scope name
 
 -- the column that a name behind a table's name and a dot means
 abbrev pub or_no_column : Option BoundColumn → NameAt → NameAt → Result BoundColumn Refusal

@@ -65,8 +65,7 @@ fn push_joined(
     ensures pushed { OnOk result (conditions_of conjuncts.new ≡ and_parts scope.now (conditions_of conjuncts.old) (joined_unit next.now)) }
 {
     match next {
-        Joined::And(unit) => push_unit(alloc, scope, unit, conjuncts),
-        Joined::Or(unit) => push_unit(alloc, scope, unit, conjuncts),
+        Joined::And(unit) | Joined::Or(unit) => push_unit(alloc, scope, unit, conjuncts),
     }
 }
 

@@ -5,9 +5,9 @@ use std::alloc::AllocError;
 /// Why a query can't be bound. Places are counted in bytes of the text from 1.
 #[derive(Clone, Copy, Debug, PartialEq, Eq)]
 pub enum BindFault {
-    /// No table has this name.
+    /// No table has this name, or none in scope is known by it.
     NoTable { name: Name, at: u32 },
-    /// No table in scope has a column of this name.
+    /// No table in scope has a column of this name, or the table that is named before it has none.
     NoColumn { name: Name, at: u32 },
     /// Two tables are known by this name, or have a column of this name.
     Ambiguous { name: Name, at: u32 },

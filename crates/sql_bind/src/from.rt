@@ -1,6 +1,7 @@
 ghost use Rattle.std.specs.Prelude.{◌≡◌, [], ◌∷◌, ◌++◌, map, IfOk, OnOk};
 ghost use Rattle.sql_bind.specs.Bound.{bound_from, bound_table, bound_tables, first_table, how_of, joined_by, on_of};
-ghost use Rattle.sql_bind.specs.Checks.{from_checks, is_among, on_checks, ons_checks, table_checks, tables_checks, tells};
+ghost use Rattle.qsr_value.specs.Names.{is_among};
+ghost use Rattle.sql_bind.specs.Checks.{from_checks, on_checks, ons_checks, table_checks, tables_checks, tells};
 ghost use Rattle.sql_bind.specs.Names.{known, known_by, letters, name_of, place_or_first, scope_behind, scope_from, scope_of, scoped, table_named, table_of};
 ghost use Rattle.sql_bind.specs.View.{conditions_of, table_view};
 ghost use Rattle.sql_tokens.specs.Words.{letters_of};
@@ -109,6 +110,7 @@ fn scoped<'t>(names: &'t [NamedTable], place: usize, table: &Table) -> (usize, S
     ensures scoped { result.1 ≡ scoped names.now place table.now }
 {
     let known = known_by(table).name;
+    // `from` refuses a table that isn't there before it asks for its place, so that the place 0 with no columns is never taken.
     let none: &[Column] = &[];
     let (number, columns) = table_named(names, &name_of(table).name).unwrap_or((0, none));
     let seen = Scoped {

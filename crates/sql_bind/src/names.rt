@@ -1,5 +1,6 @@
 ghost use Rattle.std.specs.Prelude.{◌≡◌, option_map};
-ghost use Rattle.sql_bind.specs.Names.{is_name, table_named};
+ghost use Rattle.qsr_value.specs.Names.{same_name};
+ghost use Rattle.sql_bind.specs.Names.{table_named};
 ghost use Rattle.sql_tokens.specs.Words.{letters_of};
 
 use qsr_value::{Column, ListOf, Schema, Txt};
@@ -17,14 +18,14 @@ pub type Names = ListOf<NamedTable>;
 
 /// Whether these are the letters of a name.
 pub(crate) fn is_name(text: &Txt, name: &Name) -> bool
-    ensures { result ≡ is_name text.now (letters_of name.now) }
+    ensures { result ≡ same_name text.now (letters_of name.now) }
 {
     text.as_str().as_bytes() == name.letters()
 }
 
 /// Whether two names have the same letters.
 pub(crate) fn is_same(name: &Name, other: &Name) -> bool
-    ensures { result ≡ is_name (letters_of name.now) (letters_of other.now) }
+    ensures { result ≡ same_name (letters_of name.now) (letters_of other.now) }
 {
     name.letters() == other.letters()
 }

@@ -34,7 +34,8 @@ impl<'t> Model for Scoped<'t> {
 
 impl<'t> Scoped<'t> {
     ghost use Rattle.std.specs.Prelude.{◌≡◌};
-    ghost use Rattle.sql_bind.specs.Names.{column_in, is_name};
+    ghost use Rattle.qsr_value.specs.Names.{same_name};
+    ghost use Rattle.sql_bind.specs.Names.{column_in};
     ghost use Rattle.sql_tokens.specs.Words.{letters_of};
 
     /// The column of this name.
@@ -54,7 +55,7 @@ impl<'t> Scoped<'t> {
     }
 
     fn is_known_by(&self, name: &Name) -> bool
-        ensures { result ≡ is_name self.now.known (letters_of name.now) }
+        ensures { result ≡ same_name self.now.known (letters_of name.now) }
     {
         is_same(&self.known, name)
     }

@@ -10,7 +10,7 @@ use Rattle.sql_front.specs.Machine.{running, after_column, after_dot, give, join
 use Rattle.sql_front.specs.Reads.{Reading, runs, runs_on, refused_at}
 use Rattle.sql_front.specs.Seen.{Seen, seen, letters_of}
 use Rattle.sql_front.specs.Seen as w
-use Rattle.sql_front.specs.Tree.{NameAt, Column, plain, dotted, named, CondTree, compare}
+use Rattle.sql_front.specs.Tree.{NameAt, Column, dotted, named, CondTree, compare}
 use Rattle.sql_words.specs.Machine.{Stopped, on_step}
 
 -- ---- behind a column with its table's name no `.` is taken
@@ -38,13 +38,6 @@ dotted_runs t n k r =
     (dotted_step t n k (seen r.text r.first))
 
 -- ---- tokens
-
-at_dot : (n : NameAt) (k : ColumnK) (r : Reading) (token : Token) → token ≡ r.first → token.what ≡ what.Dot → runs (after_column (plain n) k) r ≡ running r.text (after_dot n k) r.rest
-at_dot n k r token first is = rw (← first, is) refl
-
-pub column_dot : (n : NameAt) (k : ColumnK) (r next : Reading) (token : Token) → token ≡ r.first → token.what ≡ what.Dot → r.rest ≡ next.first ∷ next.rest → next.text ≡ r.text
-    → runs (after_column (plain n) k) r ≡ runs (after_dot n k) next
-column_dot n k r next token first is rest text = at_dot n k r token first is ∙ passed (after_dot n k) r next rest text
 
 at_name : (t : NameAt) (k : ColumnK) (r : Reading) (token : Token) (name : Name) → token ≡ r.first → token.what ≡ what.Name name
     → runs (after_dot t k) r ≡ running r.text (after_column (dotted t (record { letters = letters_of name; at = token.at })) k) r.rest

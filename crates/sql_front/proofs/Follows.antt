@@ -5,9 +5,9 @@ use Rattle.std.proofs.Common.{refl, ◌∙◌}
 use Rattle.sql_tokens.specs.declared.token.Keyword.TheVariants as kw
 use Rattle.sql_front.specs.declared.words.Unreserved.{Unreserved}
 use Rattle.sql_front.specs.declared.words.Unreserved.TheVariants as u
-use Rattle.sql_front.specs.Machine.{CondK, on_k, where_k, SideK, left_k, right_k, ItemK, first_item_k, next_item_k, KeyK, first_key_k, next_key_k, ColumnK, side_k}
+use Rattle.sql_front.specs.Machine.{CondK, on_k, where_k, SideK, left_k, right_k, ItemK, first_item_k, next_item_k, KeyK, first_key_k, next_key_k, side_k}
 use Rattle.sql_front.specs.Machine.{add_item, add_key, begin, after_column, want_table, before_k, left_word, union_word, step, limits}
-use Rattle.sql_front.specs.Machine.{follow_cond, follow_column, follow_items, follow_columns, follow_keys, begin_left, begin_more, behind_side}
+use Rattle.sql_front.specs.Machine.{follow_cond, follow_items, follow_columns, follow_keys, begin_left, begin_more, behind_side}
 use Rattle.sql_front.specs.Machine.{more_from, more_where, more_group, more_order, more_limited, more_optioned}
 use Rattle.sql_front.specs.Machine.{behind_cond, behind_from, behind_where, behind_columns, behind_group, behind_key_of, behind_key, behind_keys, behind_order, behind_limited, behind_optioned}
 use Rattle.sql_front.specs.Machine.{behind_item, behind_list, behind_items}
@@ -121,10 +121,6 @@ no_more_limited l (w.Word kw.Option) ends = absurd ends
 no_more_limited l t ends = refl
 
 -- ---- steps behind a part
-
-pub column_follows : (c : Column) (k : ColumnK) (t : Seen) → NotDot t → step (after_column c k) t ≡ follow_column k c t
-column_follows c k w.Dot ends = absurd ends
-column_follows c k t ends = refl
 
 -- a column that is a side is read whole at any token but a `.`
 pub side_follows : (c : Column) (k : SideK) (t : Seen) → NotDot t → step (after_column c (side_k k)) t ≡ step (behind_side (named c) k) t

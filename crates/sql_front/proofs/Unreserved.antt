@@ -1,6 +1,6 @@
 -- The words that are names elsewhere are told by their letters, and by no others.
 use Rattle.std.specs.Prelude.{◌≡◌, ℕ, Bool, true, false, ◌&&◌, ◌==◌, if◌then◌else◌, List, [], ◌∷◌, Option, Some, IfSome}
-use Rattle.std.proofs.Common.{refl, sym, subst}
+use Rattle.std.proofs.Common.{refl, sym}
 use Rattle.std.proofs.lemmas.Bool.{eqb-true}
 use Rattle.sql_front.specs.declared.words.Unreserved.{Unreserved}
 use Rattle.sql_front.specs.declared.words.Unreserved.TheVariants as u
@@ -33,9 +33,6 @@ first_spelled-is (word ∷ words) letters = first_named word (first_spelled word
 pub unreserved-names : (letters : List ℕ) → Names letters (unreserved letters)
 unfolding unreserved
 unreserved-names letters = first_spelled-is every_unreserved letters
-
-pub unreserved-is : (letters : List ℕ) (word : Unreserved) → unreserved letters ≡ Some word → letters ≡ spelled word
-unreserved-is letters word is = subst (Names letters) is (unreserved-names letters)
 
 pub unreserved-spelled : (word : Unreserved) → unreserved (spelled word) ≡ Some word
 unfolding unreserved

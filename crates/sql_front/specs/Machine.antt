@@ -287,11 +287,6 @@ abbrev pub begin_dotted : Column → ColumnK → Option State
 begin_dotted (plain n) k = Some (after_dot n k)
 begin_dotted (dotted t n) k = None
 
--- behind a table's one name: a second one
-abbrev pub rename : Table → TableK → NameAt → Option State
-rename (bare n) k m = Some (after_table (renamed n m) k)
-rename _ k m = None
-
 abbrev pub begin_as : Table → TableK → Option State
 begin_as (bare n) k = Some (as_word n k)
 begin_as _ k = None

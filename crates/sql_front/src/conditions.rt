@@ -23,9 +23,9 @@ const MOST_OPEN: u8 = 64;
 /// The fewest bytes that a further unit takes with the word that joins it, as `OR 1=1 `.
 const LEAST_UNIT: usize = 7;
 
-/// How many places a list of units keeps, used or not. They are large, and a text of 200 bytes
-/// takes no more.
-const MOST_KEPT: usize = 32;
+/// How many places a list of units keeps, used or not. They are fewer than those of other lists, since a unit is large; a text of
+/// 200 bytes takes no more.
+const MOST_UNITS_KEPT: usize = 32;
 
 /// A word that joins a further unit.
 #[derive(Clone, Copy, Debug, PartialEq, Eq)]
@@ -241,5 +241,5 @@ pub(crate) fn cond(alloc: Global, input: &mut Input, depth: u8) -> Result<Cond, 
         let next = predicate(alloc, input, depth)?;
         more.push(joined_by(joint, next))?;
     }
-    Ok(make::cond(first, more.into_items(MOST_KEPT)))
+    Ok(make::cond(first, more.into_items(MOST_UNITS_KEPT)))
 }

@@ -8,14 +8,11 @@ ghost use Rattle.sql_front.specs.View.{name_tree, item_tree, selection_tree};
 use crate::ParseFault;
 use crate::columns::{column, whole_column};
 use crate::input::Input;
-use crate::lists::{MOST_KEPT, list_behind};
+use crate::lists::{LEAST_ITEM, MOST_KEPT, list_behind};
 use crate::tree::{Item, NameAt, Selection};
 use crate::words::Aggregate;
 use sql_tokens::{Keyword, Token, What};
 use std::alloc::Global;
-
-/// The fewest bytes that a comma and an item take, as `,a`.
-const LEAST_ITEM: usize = 2;
 
 /// The `(` behind COUNT, SUM, MIN or MAX.
 fn open(input: &mut Input) -> Result<(), ParseFault>

@@ -9,6 +9,9 @@ use std::marker::Model;
 /// How many places a list of small items keeps, used or not.
 pub(crate) const MOST_KEPT: usize = 256;
 
+/// The fewest bytes that an item, a column or a key takes with its comma, as `a,`.
+pub(crate) const LEAST_ITEM: usize = 2;
+
 /// Items that are gathered in room that was taken at once. Contracts see them as their list.
 #[derive(Drop)]
 pub(crate) struct Gathered<T> {

@@ -13,14 +13,11 @@ use crate::input::Input;
 use crate::lists::{MOST_KEPT, with_room};
 use crate::options::options_part;
 use crate::selects::{SelectPart, select};
-use crate::tables::UnionPlaces;
+use crate::tables::{MOST_FURTHER, UnionPlaces};
 use crate::tail::{end_part, limit_part, order_part};
 use crate::tree::{Key, NumberAt, Query, QueryOption, Select, UnionAll};
 use sqlite_items::Items;
 use std::alloc::Global;
-
-/// The most selects behind UNION ALL, as a query has four tables at most.
-const MOST_FURTHER: usize = 3;
 
 /// The first select and those behind UNION ALL.
 type Selects = (Select, Items<UnionAll>);

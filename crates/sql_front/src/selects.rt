@@ -10,7 +10,7 @@ use crate::columns::whole_column;
 use crate::conditions::cond;
 use crate::input::Input;
 use crate::items::selection;
-use crate::lists::{MOST_KEPT, list_here};
+use crate::lists::{LEAST_ITEM, MOST_KEPT, list_here};
 use crate::tables::{FromPart, UnionPlaces, all_word, from_part};
 use crate::tree::{Column, Cond, Select, Selection};
 use crate::words::{Unreserved, word_ahead};
@@ -122,7 +122,7 @@ fn by(input: &mut Input) -> Result<(), ParseFault>
 fn columns(alloc: Global, input: &mut Input) -> Result<Items<Column>, ParseFault>
     ensures led { (h : Where) → Leads (runs (want_column (group_k (first_group_k h)))) input.old result (λ cs. runs_on (more_group (group_tree h cs))) input.new }
 {
-    let mut columns = list_here(alloc, input, 2)?;
+    let mut columns = list_here(alloc, input, LEAST_ITEM)?;
     loop {
         columns.push(whole_column(input)?)?;
         match input.peek().what {

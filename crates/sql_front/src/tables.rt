@@ -19,8 +19,8 @@ use std::alloc::Global;
 /// The most tables in a query.
 const MOST_TABLES: u8 = 4;
 
-/// The most tables behind the first.
-const MOST_FURTHER: usize = 3;
+/// The most tables behind the first one of FROM, and the most selects behind UNION ALL, since each select has a table.
+pub(crate) const MOST_FURTHER: usize = MOST_TABLES as usize - 1;
 
 /// The places of UNION and ALL.
 pub(crate) type UnionPlaces = (u32, u32);

@@ -7,7 +7,7 @@ ghost use Rattle.sql_front.specs.View.{key_of_tree, key_tree, order_tree, limit_
 use crate::ParseFault;
 use crate::columns::column;
 use crate::input::Input;
-use crate::lists::{MOST_KEPT, list_here};
+use crate::lists::{LEAST_ITEM, MOST_KEPT, list_here};
 use crate::numbers::number;
 use crate::tree::{Key, KeyOf, NameAt, NumberAt};
 use sql_tokens::{Keyword, What};
@@ -49,7 +49,7 @@ fn by_word(input: &mut Input) -> Result<(), ParseFault>
 fn keys(alloc: Global, input: &mut Input) -> Result<Items<Key>, ParseFault>
     ensures led { (g : Group) → Leads (runs (want_key (first_key_k g))) input.old result (λ keys. runs_on (more_order (order_tree g keys))) input.new }
 {
-    let mut keys = list_here(alloc, input, 2)?;
+    let mut keys = list_here(alloc, input, LEAST_ITEM)?;
     'keys: loop {
         keys.push(key(input)?)?;
         match input.peek().what {

@@ -1,6 +1,7 @@
 -- What the code's conditions say, by the trees that they stand for.
 use Rattle.std.specs.Prelude.{◌≡◌, ℕ, ◌+◌, ◌<◌, Bool, true, false, not, ◌&&◌, ◌||◌, List, [], ◌∷◌, length, get_or, drop}
-use Rattle.std.proofs.Common.{refl, ap, ◌∙◌}
+use Rattle.std.proofs.Common.{sym, ap, ◌∙◌}
+use Rattle.std.proofs.Math.Bool.{and-true, and_assoc, or-false, or_assoc}
 use Rattle.sql_bind.specs.Bound.{Conditions, none, and_then}
 use Rattle.sql_bind.specs.View.{condition_of, conditions_from, conditions_of}
 use Rattle.sql_bind.specs.declared.bound.Condition.{Condition}
@@ -22,28 +23,12 @@ abbrev pub some_holds : Joined → List Condition → Bool
 some_holds env [] = false
 some_holds env (c ∷ cs) = holds env (condition_of c) || some_holds env cs
 
-and_assoc : (a b c : Bool) → ((a && b) && c) ≡ (a && (b && c))
-and_assoc true b c = refl
-and_assoc false b c = refl
-
-or_assoc : (a b c : Bool) → ((a || b) || c) ≡ (a || (b || c))
-or_assoc true b c = refl
-or_assoc false b c = refl
-
-and_true : (a : Bool) → a ≡ (a && true)
-and_true true = refl
-and_true false = refl
-
-or_false : (a : Bool) → a ≡ (a || false)
-or_false true = refl
-or_false false = refl
-
 all_from : (env : Joined) (before : Conditions) (cs : List Condition) → all_hold env (conditions_from before cs) ≡ (all_hold env before && each_holds env cs)
-all_from env before [] = and_true (all_hold env before)
+all_from env before [] = sym (and-true (all_hold env before))
 all_from env before (c ∷ cs) = all_from env (and_then before (condition_of c)) cs ∙ and_assoc (all_hold env before) (holds env (condition_of c)) (each_holds env cs)
 
 any_from : (env : Joined) (before : Conditions) (cs : List Condition) → any_holds env (conditions_from before cs) ≡ (any_holds env before || some_holds env cs)
-any_from env before [] = or_false (any_holds env before)
+any_from env before [] = sym (or-false (any_holds env before))
 any_from env before (c ∷ cs) = any_from env (and_then before (condition_of c)) cs ∙ or_assoc (any_holds env before) (holds env (condition_of c)) (some_holds env cs)
 
 pub all_are_each : (env : Joined) (cs : List Condition) → all_hold env (conditions_of cs) ≡ each_holds env cs

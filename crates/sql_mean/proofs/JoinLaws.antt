@@ -5,7 +5,8 @@ use Rattle.std.proofs.Common.{refl, sym, ap, ◌∙◌}
 use Rattle.std.proofs.lemmas.Grind.{flat_map-append}
 use Rattle.std.proofs.lemmas.List.{append_assoc, append-nil, map-append}
 use Rattle.qsr_lists.specs.Lists.{product}
-use Rattle.sql_mean.specs.Meaning.{Joined, Lists, joined_all, plain_tables, rows_at}
+use Rattle.sql_mean.specs.Laws.{plain_tables}
+use Rattle.sql_mean.specs.Meaning.{Joined, Lists, joined_all, rows_at}
 use Rattle.sql_mean.specs.Rows.{Row}
 
 -- these rows, each behind those of an environment

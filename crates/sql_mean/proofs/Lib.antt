@@ -10,4 +10,5 @@ pub mod Loops
 pub mod OrderLaws
 pub mod Pushing
 pub mod RowSteps
+pub mod SelectLaws
 pub mod Sums

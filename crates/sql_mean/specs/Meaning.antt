@@ -1,5 +1,12 @@
--- What a bound query means: the rows that it has on its tables, as SQL says it. There is no NULL; SUM and COUNT are whole numbers
--- without a bound, and texts compare by their bytes.
+-- What a bound query means: the rows that it has on its tables.
+--
+-- The definitions are those of SQL's SELECT, without NULL and so with a logic of two values. A select takes the rows of FROM, keeps
+-- those of which WHERE holds, gathers them in groups by GROUP BY, computes its items of each row or group, and under DISTINCT keeps
+-- each row of items once. UNION ALL puts the rows of several selects one behind the other. ORDER BY puts the rows of the whole in
+-- order, and LIMIT keeps the first of them. Semi and anti joins are those of relational algebra: they keep a row of the left side
+-- that has, or that hasn't, a partner in the table on the right, and no columns of that table.
+--
+-- SUM and COUNT are whole numbers without a bound, and texts compare by their bytes.
 use Rattle.std.specs.Prelude.{◌≡◌, ℕ, suc, ℤ, pos, ◌+ℤ◌, Bool, true, false, not, ◌&&◌, ◌||◌, if◌then◌else◌, List, [], ◌∷◌, ◌++◌, length, map, filter, take, Option, Some, None}
 use Rattle.std.specs.List.{flat_map, list_any, slice_index_or}
 use Rattle.std.specs.List.Sorted.{IsPermutation, IsSorted}
@@ -31,10 +38,13 @@ Lists = List (List Row)
 
 -- ---- conditions
 
--- a row of each table of FROM so far; the table of a semi or anti join has none
+-- A row of each table of FROM so far, in the order of FROM. For the table of a semi or anti join the empty row stands, so that the
+-- tables behind it keep their places: no column of it can be named behind its ON.
 abbrev pub Joined : Type 0
 Joined = List Row
 
+-- What stands for a value that isn't there, as at a column that no row has. The binder lets no such column through, so that no
+-- answer shows it. It is here because a total function needs some value, and 0 is one as good as another.
 abbrev pub no_value : Value
 no_value = value.Int (pos 0)
 
@@ -73,18 +83,6 @@ abbrev mutual
   any_holds env none = false
   any_holds env (and_then cs c) = any_holds env cs || holds env c
 
--- ---- words of laws
-
--- conditions behind others
-abbrev pub conjuncts : Conditions → List Condition → Conditions
-conjuncts before [] = before
-conjuncts before (c ∷ cs) = conjuncts (and_then before c) cs
-
--- NOT before each of some conditions
-abbrev pub opposites : Conditions → Conditions
-opposites none = none
-opposites (and_then cs c) = and_then (opposites cs) (opposite c)
-
 -- ---- FROM and WHERE
 
 -- These with a row of one table more, under the conditions of its ON: beside each of its rows; or themselves, where some row of it
@@ -96,11 +94,6 @@ joined_with by.Anti rows on envs = map (λ env. env ++ [] ∷ []) (filter (λ en
 
 abbrev pub rows_at : Lists → ℕ → List Row
 rows_at tables number = slice_index_or tables number []
-
--- tables of FROM without conditions
-abbrev pub plain_tables : List ℕ → List BoundTable
-plain_tables [] = []
-plain_tables (n ∷ ns) = record { table = n; joined = by.Product; conditions = none } ∷ plain_tables ns
 
 abbrev pub joined_all : Lists → List BoundTable → List Joined → List Joined
 joined_all tables [] envs = envs

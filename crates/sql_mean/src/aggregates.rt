@@ -8,9 +8,9 @@ ghost use Rattle.sql_mean.specs.Meaning.{folded, greater, lesser, no_value, numb
 ghost use Rattle.sql_mean.specs.declared.fault.AnswerFault.TheVariants as fault;
 
 use crate::AnswerFault;
-use crate::places::{compare_values, value_at};
+use crate::places::value_at;
 use crate::rows::Joined;
-use qsr_value::{Memory, TryCopy, Value};
+use qsr_value::{Memory, TryCopy, Value, cmp_values};
 use sql_bind::BoundColumn;
 use sql_front::Aggregate;
 use std::alloc::Global;
@@ -63,7 +63,7 @@ fn sum(envs: &[Joined], column: BoundColumn) -> Result<i128, AnswerFault>
 fn lesser<'v>(a: &'v Value, b: &'v Value) -> &'v Value
     ensures { result.now ≡ lesser a.now b.now (compare_values a.now b.now) }
 {
-    match compare_values(a, b) {
+    match cmp_values(a, b) {
         Ordering::Greater => b,
         Ordering::Less | Ordering::Equal => a,
     }
@@ -73,7 +73,7 @@ fn lesser<'v>(a: &'v Value, b: &'v Value) -> &'v Value
 fn greater<'v>(a: &'v Value, b: &'v Value) -> &'v Value
     ensures { result.now ≡ greater a.now b.now (compare_values a.now b.now) }
 {
-    match compare_values(a, b) {
+    match cmp_values(a, b) {
         Ordering::Less => b,
         Ordering::Greater | Ordering::Equal => a,
     }

@@ -68,8 +68,8 @@ fn bag(alloc: Global, tables: &Lists, query: &Bound) -> Result<Rows, AnswerFault
 
 /// The rows that answer a query over these tables, in the order of ORDER BY. Rows that no key tells apart stand as the query gives
 /// them: in the order of the rows of its first table, then of its second, and so on; groups where their first rows stand; one select
-/// behind the other. A value that isn't there is 0, and values of two kinds tie: where a query was bound over the schemas of these
-/// tables there is none of either.
+/// behind the other. A value that isn't there is 0, and a number stands before a text: where a query was bound over the schemas of
+/// these tables, no value is missing and none is compared with one of the other kind.
 pub fn answer_slowly(alloc: Global, query: &Bound, tables: &Lists) -> Result<Rows, AnswerFault>
     ensures rows { IfOk result (λ rows. rows ≡ stable_answer tables.now (bound_view query.now)) }
     ensures answer { IfOk result (λ rows. IsAnswer tables.now (bound_view query.now) rows) }

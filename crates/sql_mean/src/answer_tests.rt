@@ -60,7 +60,7 @@ const JOINS: [Case; 16] = [
 ];
 
 /// Groups, DISTINCT and UNION ALL.
-const GROUPS: [Case; 11] = [
+const GROUPS: [Case; 12] = [
     (
         "SELECT COUNT(*), SUM(x), MIN(x), MAX(x) FROM a GROUP BY x",
         "1 3 3 3 ;1 1 1 1 ;2 4 2 2 ;",
@@ -89,6 +89,10 @@ const GROUPS: [Case; 11] = [
     (
         "SELECT SUM(n) FROM wide WHERE m = 1 AND n <> 1 GROUP BY m",
         "170141183460469231731687303715884105726 ;",
+    ),
+    (
+        "SELECT SUM(m) FROM wide WHERE n = 3 GROUP BY n",
+        "18446744073709551614 ;",
     ),
 ];
 
@@ -201,7 +205,15 @@ fn tables(alloc: Global) -> Result<Lists, Memory> {
     tables.push(texts(alloc, &[(3, "pear"), (1, "fig"), (1, "kiwi")])?)?;
     tables.push(pairs(
         alloc,
-        &[(i128::MAX, 1), (1, 1), (-1, 1), (i128::MIN, 2), (-1, 2)],
+        &[
+            (i128::MAX, 1),
+            (1, 1),
+            (-1, 1),
+            (i128::MIN, 2),
+            (-1, 2),
+            (3, 9223372036854775807),
+            (3, 9223372036854775807),
+        ],
     )?)?;
     tables.push(numbers(alloc, &[1, 2, 3, 4, 5])?)?;
     tables.push(numbers(alloc, &[3, 6])?)?;

@@ -58,17 +58,17 @@ fn text<'v>(env: &'v [Row], side: &'v Operand) -> &'v [u8]
     }
 }
 
-/// Compares two sides: numbers by value, texts by their bytes.
+/// Compares two sides: numbers by value, texts by their bytes, and a number before a text.
 fn compare_sides(env: &[Row], left: &Operand, right: &Operand) -> Ordering
     ensures { result ≡ compare_values (value_of env.now left.now) (value_of env.now right.now) }
 {
     match number(env, left) {
         Some(number) => match self::number(env, right) {
             Some(other) => number.cmp(&other),
-            None => Ordering::Equal,
+            None => Ordering::Less,
         },
         None => match self::number(env, right) {
-            Some(_) => Ordering::Equal,
+            Some(_) => Ordering::Greater,
             None => text(env, left).cmp(text(env, right)),
         },
     }

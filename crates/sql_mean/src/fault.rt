@@ -1,5 +1,4 @@
 use qsr_value::Memory;
-use std::alloc::AllocError;
 use thiserror::Error;
 
 /// Why a query was not answered.
@@ -19,17 +18,6 @@ impl From<Memory> for AnswerFault {
     ghost from_gives = { λ _ fault. fault ≡ AnswerFault.Memory };
 
     fn from(_error: Memory) -> AnswerFault {
-        AnswerFault::Memory
-    }
-}
-
-impl From<AllocError> for AnswerFault {
-    ghost use Rattle.std.specs.Prelude.{◌≡◌};
-    ghost use Rattle.sql_mean.specs.declared.fault.AnswerFault.{AnswerFault};
-
-    ghost from_gives = { λ _ fault. fault ≡ AnswerFault.Memory };
-
-    fn from(_error: AllocError) -> AnswerFault {
         AnswerFault::Memory
     }
 }

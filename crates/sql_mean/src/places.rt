@@ -1,11 +1,9 @@
 ghost use Rattle.std.specs.Prelude.{◌≡◌, slice_index_or, unwrap_or};
 ghost use Rattle.std.specs.Option.{option_copied};
-ghost use Rattle.qsr_value.specs.Ordered.{compare_values};
 ghost use Rattle.sql_mean.specs.Meaning.{no_value, value_at};
 
 use qsr_value::{Row, Value};
 use sql_bind::BoundColumn;
-use std::cmp::Ordering;
 
 /// The value at a place of a row, or else this one.
 pub(crate) fn item_or<'v>(row: &'v [Value], place: usize, other: &'v Value) -> &'v Value
@@ -34,21 +32,5 @@ pub(crate) fn value_at<'v>(env: &'v [Row], column: BoundColumn, zero: &'v Value)
     match value_there(env, column) {
         Some(value) => value,
         None => zero,
-    }
-}
-
-/// Compares two values: whole numbers by value, texts by their bytes. Values of two kinds tie.
-pub(crate) fn compare_values(a: &Value, b: &Value) -> Ordering
-    ensures { result ≡ compare_values a.now b.now }
-{
-    match a {
-        Value::Int(number) => match b {
-            Value::Int(other) => number.cmp(other),
-            Value::Text(_) => Ordering::Equal,
-        },
-        Value::Text(text) => match b {
-            Value::Int(_) => Ordering::Equal,
-            Value::Text(other) => text.as_str().cmp(other.as_str()),
-        },
     }
 }

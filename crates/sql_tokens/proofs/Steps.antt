@@ -51,16 +51,3 @@ pub text_passed : (marked : Bool) (rest : List ℕ) (at : ℕ) → at < length r
 text_passed marked rest at h e =
     ap (past at) (at_drop_more (text_length marked) rest at 0 h ∙ byte_turn marked (get_or rest at 0) (drop (at + 1) rest) e)
     ∙ past_more at (text_length (get_or rest at 0 == 39 && not marked) (drop (at + 1) rest))
-
--- the text has ended right before this byte
-pub text_ended : (marked : Bool) (rest : List ℕ) (at : ℕ) → at < length rest → (marked && not (slice_index rest at == 39)) ≡ true → past at (text_length marked (drop at rest)) ≡ Some at
-text_ended marked rest at h e =
-    ap (past at) (at_drop_more (text_length marked) rest at 0 h ∙ by marked (get_or rest at 0) (drop (at + 1) rest) e) ∙ ap Some (omega arith)
-  where
-    tested : (is_mark : Bool) (o : Option ℕ) → not is_mark ≡ true → (if is_mark then o else Some 0) ≡ Some 0
-    tested true o e = absurd (subst (λ x. cond x ⊥ (Unit {0})) e tt)
-    tested false o e = refl
-
-    by : (marked : Bool) (b : ℕ) (rest : List ℕ) → (marked && not (b == 39)) ≡ true → text_length marked (b ∷ rest) ≡ Some 0
-    by true b rest e = tested (b == 39) (past 1 (text_length false rest)) e
-    by false b rest e = absurd (subst (λ x. cond x ⊥ (Unit {0})) e tt)

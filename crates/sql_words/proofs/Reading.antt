@@ -1,7 +1,6 @@
 -- What follows from the laws of a machine, once for all grammars.
-use Rattle.std.specs.Prelude.{◌≡◌, Bool, true, false, if◌then◌else◌, List, [], ◌∷◌, ◌++◌, map, Option, Some, None, is_some, IfSome, Result, Ok, Err, ◌⊎◌}
+use Rattle.std.specs.Prelude.{◌≡◌, Bool, true, false, List, [], ◌∷◌, ◌++◌, map, Option, Some, None, is_some, IfSome, Result, Ok, Err, ◌⊎◌}
 use Rattle.std.proofs.Common.{refl, sym, ap, ◌∙◌, subst, append_assoc, append-nil, inl, inr}
-use Rattle.std.specs.Option.{option_and_then}
 use Rattle.sql_words.specs.Reading.{CanGoOn, Found, IsText, LiteralsFit, Mark, Only, OnlyRefused, Refusal, Refused, Refuses, Words, allowed, last_minus, refusal_at, whats}
 use Rattle.sql_words.specs.Machine.{Laws, Outcome, Parses, Read, Stopped, at_fault, go, run, same_bit}
 
@@ -37,18 +36,6 @@ at_some : {X : Type 0} (P : X → Type 0) {o : Option X} {x : X} → o ≡ Some 
 at_some P p has = subst (λ o. IfSome o P) p has
 
 module _ {What State : Type 0} (step : State → What → Option State) (limits : State → What → Bool) where
-  -- one run over marks, and then another
-  pub go-append : (st : State) (xs ys : List (Mark What)) → go step limits st (xs ++ ys) ≡ option_and_then (λ next. go step limits next ys) (go step limits st xs)
-  go-append st [] ys = refl
-  go-append st (m ∷ xs) ys = stepped (λ next. go-append next xs ys) (same_bit (limits st m.0) m.1) (step st m.0) where
-    stepped : ((next : State) → go step limits next (xs ++ ys) ≡ option_and_then (λ last. go step limits last ys) (go step limits next xs))
-        → (b : Bool) (taken : Option State)
-        → (if b then option_and_then (λ next. go step limits next (xs ++ ys)) taken else None)
-        ≡ option_and_then (λ next. go step limits next ys) (if b then option_and_then (λ next. go step limits next xs) taken else None)
-    stepped more false taken = refl
-    stepped more true None = refl
-    stepped more true (Some next) = more next
-
   -- a state takes a token that the limits allow
   pub record Takes (st : State) (t : What) (next : State) : Type 0 where
     pub allows : limits st t ≡ true
@@ -278,10 +265,6 @@ module _ {What Token Tree State : Type 0} {words : Words What Token} {step : Sta
   -- tokens are refused in one way
   pub one_refusal : (told other : Refusal) (ts : List Token) → Refuses words spell ts told → Refuses words spell ts other → told ≡ other
   one_refusal told other ts is was = stopped_once (sym (refused_stops told ts is) ∙ refused_stops other ts was)
-
-  -- a text isn't refused
-  pub text_or_refusal : (tree : Tree) (told : Refusal) (ts : List Token) → IsText spell (whats words ts) tree → Refuses words spell ts told → ⊥
-  text_or_refusal tree told ts is refuses = read_is_not_stopped (sym (text_read tree ts is) ∙ refused_stops told ts refuses)
 
   -- what can go on isn't refused, and the rest is
   pub goes_or_refused : (ts : List Token) → CanGoOn spell (whats words ts) ⊎ ((told : Refusal) × Refuses words spell ts told)

@@ -3,7 +3,8 @@ use Rattle.std.proofs.Common.{◌≡◌, ℕ, ◌<◌, ◌≤◌, ◌||◌, Bool
 use Rattle.std.proofs.lemmas.Bool.{cond-true, cond-false, ltb-false, leb-false, lt-ltb, le-ltb, le-leb, lt-leb}
 use Rattle.qsr_value.specs.Columns.{width_of}
 use Rattle.qsr_value.specs.declared.schema.Column.{Column}
-use Rattle.table_file.specs.Refusals.{column_names, create_refusal, is_among, repeats}
+use Rattle.qsr_value.specs.Names.{is_among}
+use Rattle.table_file.specs.Refusals.{column_names, create_refusal, repeats}
 use Rattle.table_file.specs.declared.fault.TableFault.TheVariants.{Exists, CatalogFull, RowTooWide}
 
 abbrev pub is_taken : List (List ℕ) → List ℕ → List Column → Bool

@@ -8,14 +8,11 @@ use Rattle.qsr_value.specs.declared.schema.Column.{Column}
 use Rattle.qsr_value.specs.declared.row.Value.{Value}
 use Rattle.row_page.specs.Pages.{page_count}
 use Rattle.table_file.specs.CatalogueBytes.{IsCatalogue, catalogue_bytes}
-use Rattle.table_file.specs.Tables.{IsTableOf, Table, Tables, is_name, names_of, place_of, table_pages}
+use Rattle.qsr_value.specs.Names.{is_among}
+use Rattle.table_file.specs.Tables.{IsTableOf, Table, Tables, names_of, place_of, table_pages}
 use Rattle.table_file.specs.declared.catalogue.Catalogue.{Catalogue}
 use Rattle.table_file.specs.declared.fault.TableFault.{TableFault}
 use Rattle.table_file.specs.declared.fault.TableFault.TheVariants.{Exists, CatalogFull, RowTooWide, NoTable, BadField, TableFull, NotStore, Failed, Memory}
-
-abbrev pub is_among : List ℕ → List (List ℕ) → Bool
-is_among name [] = false
-is_among name (other ∷ others) = is_name other name || is_among name others
 
 -- a name stands twice among these
 abbrev pub repeats : List (List ℕ) → Bool

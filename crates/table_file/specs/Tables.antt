@@ -1,10 +1,10 @@
 -- Tables, and how they stand in a store.
-use Rattle.std.specs.Prelude.{◌≡◌, ◌≢◌, ℕ, suc, ◌+◌, ◌*◌, ◌<◌, ◌≤◌, Bool, not, nat_eq, ◌==◌, if◌then◌else◌, List, [], ◌∷◌, ◌++◌, length, map, filter, slice_get, slice_index_or, slice_set, Option, Some, None, ⊤}
-use Rattle.std.specs.Cmp.Lexicographic.{pointwise}
+use Rattle.std.specs.Prelude.{◌≡◌, ◌≢◌, ℕ, suc, ◌+◌, ◌*◌, ◌<◌, ◌≤◌, not, ◌==◌, if◌then◌else◌, List, [], ◌∷◌, ◌++◌, length, map, filter, slice_get, slice_index_or, slice_set, Option, Some, None, ⊤}
 use Rattle.std.specs.List.{AllByRecursion}
 use Rattle.std.specs.Option.{option_map}
 use Rattle.page_store.specs.Store.{AreaHolds, Contents}
 use Rattle.page_store.specs.declared.pages.Sizes.{Sizes}
+use Rattle.qsr_value.specs.Names.{same_name}
 use Rattle.qsr_value.specs.Encoding.{encoded_row}
 use Rattle.qsr_value.specs.Values.{AreTexts, Fits}
 use Rattle.qsr_value.specs.declared.row.Value.{Value}
@@ -82,13 +82,10 @@ pub record HasTables (s : Tables) (m : Contents) : Type 0 where
   pub catalogue : m.body 0 ≡ Some (catalogue_bytes (catalogue_of s))
   pub rows : (number : ℕ) (table : Table) → slice_get s.tables number ≡ Some table → RowsStand number table.columns table.rows m
 
-abbrev pub is_name : List ℕ → List ℕ → Bool
-is_name name other = pointwise nat_eq name other
-
 -- the place of the first of these names that is this one
 abbrev pub place_of : List ℕ → List (List ℕ) → Option ℕ
 place_of name [] = None
-place_of name (other ∷ others) = if is_name other name then Some 0 else option_map suc (place_of name others)
+place_of name (other ∷ others) = if same_name other name then Some 0 else option_map suc (place_of name others)
 
 -- the names of the tables · the table of a name: its number and what it is, the first where several have the name
 abbrev pub names_of : Tables → List (List ℕ)

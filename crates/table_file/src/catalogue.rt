@@ -42,7 +42,8 @@ impl Catalogue {
     ghost use Rattle.row_page.specs.Pages.{IsNoPage};
     ghost use Rattle.table_file.specs.Appending.{HasAdded, HasCounted, IsBehind, grown_entry};
     ghost use Rattle.table_file.specs.CatalogueBytes.{IsCatalogue, IsColumn, IsName, IsOfStore, catalogue_bytes};
-    ghost use Rattle.table_file.specs.Refusals.{IsAppendFault, IsCreateFault, IsLoadFault, TableCause, column_names, create_refusal, exceeds, is_among, repeats, table_names};
+    ghost use Rattle.qsr_value.specs.Names.{is_among};
+    ghost use Rattle.table_file.specs.Refusals.{IsAppendFault, IsCreateFault, IsLoadFault, TableCause, column_names, create_refusal, exceeds, repeats, table_names};
     ghost use Rattle.table_file.specs.Tables.{AreTables, HasAppended, HasTables, IsTableOf, OnlyTables, RowsStand, Table, Tables, catalogue_of, entry_of, page_at, place_of, table_pages, table_part, with_rows, with_table};
     ghost use Rattle.table_file.specs.declared.entries.TableEntry.{TableEntry as Entry};
 
@@ -57,6 +58,7 @@ impl Catalogue {
             → MatchResult result (λ catalogue. catalogue ≡ catalogue_of s) (λ fault. (fault ≡ TableFault.Failed) ⊎ (fault ≡ TableFault.Memory)) }
         ensures none { IfErr result (IsLoadFault store.old.sizes ((store_view store.old).honest) ((store_view store.old).seen)) }
         ensures stays { Stays (store_view store.old) (store_view store.new) }
+        ensures disk_stays { Stays (D.view store.old.disk.now) (D.view store.new.disk.now) }
         ensures ready { IsReady store.old → IsReady store.new }
         ensures sizes { store.new.sizes ≡ store.old.sizes }
         ensures same { store.new.disk.ghost_name ≡ store.old.disk.ghost_name }

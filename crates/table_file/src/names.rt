@@ -1,7 +1,8 @@
 // Names among others.
 
 ghost use Rattle.std.specs.Prelude.{◌≡◌};
-ghost use Rattle.table_file.specs.Refusals.{column_names, is_among, repeats};
+ghost use Rattle.qsr_value.specs.Names.{is_among};
+ghost use Rattle.table_file.specs.Refusals.{column_names, repeats};
 
 use qsr_value::Column;
 

@@ -3,8 +3,9 @@ use Rattle.disk_model.specs.View.{After, LeavesOnly}
 use Rattle.disk_model.proofs.Runs.{weaker_run}
 use Rattle.page_store.specs.Store.{contents_view}
 use Rattle.table_file.specs.Tables.{OnlyTables, with_table}
-use Rattle.qsr_top.specs.Creating.{ComesToCreate, Creates, told_of_opening}
+use Rattle.qsr_top.specs.Creating.{ComesToCreate, Creates}
 use Rattle.qsr_top.specs.Stored.{Stands}
+use Rattle.qsr_top.specs.Told.{told_of_opening}
 use Rattle.qsr_top.proofs.CreateLemmas.{behind_read, honest_of, no_change, of_same, others_behind_read, sizes_of, stands_still, stays_of, told_of_disk, unopened_cause, unopened_fault, unopened_of_disk}
 use Rattle.qsr_top.proofs.creates.create.Goals as goal
 

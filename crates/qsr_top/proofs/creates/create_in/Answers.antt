@@ -3,7 +3,7 @@ use Rattle.disk_model.specs.View.{EachImage}
 use Rattle.page_store.specs.Store.{store_view}
 use Rattle.table_file.specs.Tables.{with_table}
 use Rattle.qsr_top.specs.Stored.{Stands}
-use Rattle.qsr_top.proofs.CreateLemmas.{are_created, behind_read, changed, changed_run, create_refused, refusal_agrees, stood}
+use Rattle.qsr_top.proofs.CreateLemmas.{are_created, behind_read, changed_run, create_refused, refusal_agrees, stands_each, stood}
 use Rattle.qsr_top.proofs.creates.create_in.Goals as goal
 
 pub returns-in-Ok-create-clause-any_moment : goal.returns-in-Ok-create-clause-any_moment
@@ -27,7 +27,7 @@ returns-in-Ok-create-clause-creates g c ready s are stands honest =
     let is = c.in-Ok.ensures.tables s are (λ honest. (stands view.seen (view.seen_may_stay honest)).tables) honest in
     let s' = with_table s c.args.name.now c.args.schema in
     let tables = c.in-Ok-create.ensures.committed (c.in-Ok.ensures.ready ready) s is (λ m now. (each m now).tables) in
-    let all = changed size sizes s s' each tables c.in-Ok-create.ensures.others in
+    let all = stands_each size sizes s s' each tables c.in-Ok-create.ensures.others in
     let same = c.in-Ok-create.ensures.sizes ∙ c.in-Ok.ensures.sizes in
     record {
       accepted = sym (refusal_agrees s c.in-Ok.catalogue c.args.name.now c.args.schema is) ∙ c.in-Ok-create.ensures.accepted;

@@ -1,9 +1,8 @@
 use Rattle.std.proofs.Common.{◌≡◌, ap, inl, rules, ◌∙◌}
 use Rattle.disk_model.specs.View.{Stays}
 use Rattle.disk_model.proofs.Runs.{stays_twice}
-use Rattle.page_store.specs.Store.{contents_view}
-use Rattle.qsr_top.specs.Creating.{told_of_opening}
-use Rattle.qsr_top.proofs.CreateLemmas.{honest_of, of_same, sizes_of, stands_still, stays_of, unopened_fault}
+use Rattle.qsr_top.specs.Told.{told_of_opening}
+use Rattle.qsr_top.proofs.CreateLemmas.{honest_of, of_same, sizes_of, stands_still, unopened_fault}
 use Rattle.qsr_top.proofs.ExplainLemmas.{none_of_disk, opened_none, tables_seen}
 use Rattle.qsr_top.proofs.explains.stored_tables.Goals as goal
 
@@ -24,14 +23,9 @@ returns-in-Ok-clause-none g c =
     c.in-Ok.ensures.stays c.in-Ok.ensures.store c.tables_in.ensures.none
 
 pub returns-in-Ok-clause-stays : goal.returns-in-Ok-clause-stays
-returns-in-Ok-clause-stays g c sizes heads honest =
-    let before = g.D.Disk.view c.args.disk.now in
-    let opened = g.D.Disk.view c.in-Ok.store.disk.now in
-    let stays = c.in-Ok.ensures.stays in
-    let told = c.in-Ok.ensures.told sizes heads (honest_of c.in-Ok.store.sizes opened (stays.time.honest.1 honest)) in
-    let run = rw (c.tables_in.ensures.sizes, told) at c.tables_in.ensures.stays in
-    of_same (λ disk. Stays (contents_view sizes before) (contents_view sizes (g.D.Disk.view disk))) c.tables_in.new.store.disk.now (search rules)
-    (stays_twice (stays_of sizes before opened stays) run)
+returns-in-Ok-clause-stays g c =
+    of_same (λ disk. Stays (g.D.Disk.view c.args.disk.now) (g.D.Disk.view disk)) c.tables_in.new.store.disk.now (search rules)
+    (stays_twice c.in-Ok.ensures.stays c.tables_in.ensures.stays)
 
 pub returns-in-Err-clause-tables : goal.returns-in-Err-clause-tables
 returns-in-Err-clause-tables g c sizes s are stands honest =
@@ -40,10 +34,8 @@ returns-in-Err-clause-tables g c sizes s are stands honest =
     inl (is ∙ ap told_of_opening (unopened_fault (g.D.Disk.size_of c.args.disk.now) sizes s (g.D.Disk.view c.args.disk.now) fault stands honest c.in-Err.ensures.refused))
 
 pub returns-in-Err-clause-stays : goal.returns-in-Err-clause-stays
-returns-in-Err-clause-stays g c sizes heads honest =
-    let before = g.D.Disk.view c.args.disk.now in
-    of_same (λ disk. Stays (contents_view sizes before) (contents_view sizes (g.D.Disk.view disk))) c.in-Err.unopened.disk.now (search rules)
-    (stays_of sizes before (g.D.Disk.view c.in-Err.unopened.disk.now) c.in-Err.ensures.stays)
+returns-in-Err-clause-stays g c =
+    of_same (λ disk. Stays (g.D.Disk.view c.args.disk.now) (g.D.Disk.view disk)) c.in-Err.unopened.disk.now (search rules) c.in-Err.ensures.stays
 
 pub returns-in-Ok-clause-unstored : goal.returns-in-Ok-clause-unstored
 returns-in-Ok-clause-unstored g c page honest none =

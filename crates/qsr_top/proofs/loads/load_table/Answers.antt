@@ -2,8 +2,9 @@ use Rattle.std.proofs.Common.{◌∙◌, inl, refl}
 use Rattle.disk_model.proofs.Runs.{each_now, weaker_run}
 use Rattle.page_store.specs.Store.{store_view}
 use Rattle.table_file.specs.Tables.{with_rows}
+use Rattle.qsr_top.proofs.CreateLemmas.{stands_each}
 use Rattle.qsr_top.proofs.LoadLemmas.{others-then}
-use Rattle.qsr_top.proofs.LoadedLemmas.{HasLoaded-all, IsTableOf-same, Loads-fault, each_sizes, entry_at, loads_moment, rows_seen, stands_each, stands_kept}
+use Rattle.qsr_top.proofs.LoadedLemmas.{HasLoaded-all, IsTableOf-same, Loads-fault, each_sizes, entry_at, loads_moment, rows_seen, stands_kept}
 use Rattle.qsr_top.proofs.loads.load_table.Goals as goal
 
 pub returns-in-Err-clause-loads : goal.returns-in-Err-clause-loads

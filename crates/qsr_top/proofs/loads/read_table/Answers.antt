@@ -21,8 +21,8 @@ returns-in-Ok-true-clause-fault g c t there stand =
     let left' = g.S.Source.left c.read_rows.new.source in
     let writer = c.writer-writer.result in
     let schema = schema_is catalogue.tables c.args.table t c.schema.result.now there c.schema.ensures in
-    let all = LoadsAll-first store.sizes t.columns c.schema.result.now (c.in-Ok.input.served + 1) (prepend_known c.in-Ok.input.lines left) left left' true writer c.read_rows.new.writer
-    (store_view store) (store_view c.read_rows.new.store) schema (ap (λ n. n + 1) c.in-Ok.ensures.1) (prepend-none c.in-Ok.input.lines left c.in-Ok.ensures.0) (rw c.in-Ok-true.field-0-test at c.in-Ok-true.ensures.all) in
+    let all = LoadsAll-first store.sizes t.columns c.schema.result.now (c.in_ok-input.input.served + 1) (prepend_known c.in_ok-input.input.lines left) left left' true writer c.read_rows.new.writer
+    (store_view store) (store_view c.read_rows.new.store) schema (ap (λ n. n + 1) c.in_ok-input.ensures.1) (prepend-none c.in_ok-input.input.lines left c.in_ok-input.ensures.0) (rw c.in-Ok-true.field-0-test at c.in-Ok-true.ensures.all) in
     IsReadFull-all (IsRead-all store.sizes t left left' true writer c.read_rows.new.writer (store_view store) (store_view c.read_rows.new.store) all
     (IsLoading-start store.sizes catalogue c.args.table t writer (store_view store) c.requires.form there (c.writer-writer.ensures.counted t there)
     (λ honest. c.writer-writer.ensures.has t (store_view store).seen there (stand honest))))
@@ -38,8 +38,8 @@ returns-in-Ok-false-clause-read g c t there stand =
     let left' = g.S.Source.left c.read_rows.new.source in
     let writer = c.writer-writer.result in
     let schema = schema_is catalogue.tables c.args.table t c.schema.result.now there c.schema.ensures in
-    let all = LoadsAll-first store.sizes t.columns c.schema.result.now (c.in-Ok.input.served + 1) (prepend_known c.in-Ok.input.lines left) left left' false writer c.read_rows.new.writer
-    (store_view store) (store_view c.read_rows.new.store) schema (ap (λ n. n + 1) c.in-Ok.ensures.1) (prepend-none c.in-Ok.input.lines left c.in-Ok.ensures.0) (rw c.in-Ok-false.field-0-test at c.in-Ok-false.ensures.all) in
+    let all = LoadsAll-first store.sizes t.columns c.schema.result.now (c.in_ok-input.input.served + 1) (prepend_known c.in_ok-input.input.lines left) left left' false writer c.read_rows.new.writer
+    (store_view store) (store_view c.read_rows.new.store) schema (ap (λ n. n + 1) c.in_ok-input.ensures.1) (prepend-none c.in_ok-input.input.lines left c.in_ok-input.ensures.0) (rw c.in-Ok-false.field-0-test at c.in-Ok-false.ensures.all) in
     IsRead-all store.sizes t left left' false writer c.read_rows.new.writer (store_view store) (store_view c.read_rows.new.store) all
     (IsLoading-start store.sizes catalogue c.args.table t writer (store_view store) c.requires.form there (c.writer-writer.ensures.counted t there)
     (λ honest. c.writer-writer.ensures.has t (store_view store).seen there (stand honest)))
@@ -51,10 +51,10 @@ pub returns-clause-fault : goal.returns-clause-fault
 returns-clause-fault g c t there stand =
     let left = g.S.Source.left c.args.source.now in
     let schema = schema_is c.args.catalogue.now.tables c.args.table t c.schema.result.now there c.schema.ensures in
-    IsReadFault-weaker c.in-Err-read_rows.told
-    (λ told unread. IsUnread-first t.columns c.schema.result.now (c.in-Ok.input.served + 1) (prepend_known c.in-Ok.input.lines left) left (Err told) schema
-    (ap (λ n. n + 1) c.in-Ok.ensures.1) (prepend-none c.in-Ok.input.lines left c.in-Ok.ensures.0) unread)
-    (λ none. absurd none) c.in-Err-read_rows.ensures.fault
+    IsReadFault-weaker c.in-Err.told
+    (λ told unread. IsUnread-first t.columns c.schema.result.now (c.in_ok-input.input.served + 1) (prepend_known c.in_ok-input.input.lines left) left (Err told) schema
+    (ap (λ n. n + 1) c.in_ok-input.ensures.1) (prepend-none c.in_ok-input.input.lines left c.in_ok-input.ensures.0) unread)
+    (λ none. absurd none) c.in-Err.ensures.fault
 
 pub returns-clause-keeps : goal.returns-clause-keeps
 returns-clause-keeps g c s is each = c.read_rows.ensures.behind.keeps s (c.writer-writer.ensures.behind s is) each

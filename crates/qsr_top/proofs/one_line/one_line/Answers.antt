@@ -7,7 +7,7 @@ returns-in-Ok-Unended-clause-line g c =
     let left = g.S.Source.left c.args.source.now in
     let left' = g.S.Source.left c.next_line.new.source in
     let held = c.next_line.new.lines in
-    let keeps = kept_first c.in-Ok.lines held left left' c.in-Ok.ensures c.in-Ok-Unended.ensures.same in
+    let keeps = kept_first c.in_ok-lines.lines held left left' c.in_ok-lines.ensures c.in-Ok-Unended.ensures.same in
     let found = last_alone held left' (rw c.in-Ok-Unended.field-0-is at c.in-Ok-Unended.ensures.held) (rw c.in-Ok-Unended.field-0-is at c.in-Ok-Unended.ensures.found) in
     line_kept c.first_text.result left (prepend_known held left') left' keeps
     (read_is c.first_text.result (prepend_known held left') left' _ found (rw c.as_slice.ensures at c.first_text.ensures.read))
@@ -17,7 +17,7 @@ returns-in-Ok-End-clause-none g c =
     let left = g.S.Source.left c.args.source.now in
     let left' = g.S.Source.left c.next_line.new.source in
     let held = c.next_line.new.lines in
-    let keeps = kept_first c.in-Ok.lines held left left' c.in-Ok.ensures c.in-Ok-End.ensures.same in
+    let keeps = kept_first c.in_ok-lines.lines held left left' c.in_ok-lines.ensures c.in-Ok-End.ensures.same in
     let found = none_alone held left' (rw c.in-Ok-End.field-0-is at c.in-Ok-End.ensures.found) in
     none_kept c.first_text-in-Ok-End.result left (prepend_known held left') keeps
     (none_is c.first_text-in-Ok-End.result (prepend_known held left') _ found.0 c.first_text-in-Ok-End.ensures.none)

@@ -1,5 +1,5 @@
 use Rattle.std.proofs.Common.{◌≡◌, drop, map}
-use Rattle.sql_bind.specs.Checks.{is_among}
+use Rattle.qsr_value.specs.Names.{is_among}
 use Rattle.sql_bind.specs.Names.{known, table_of}
 use Rattle.sql_tokens.specs.Words.{letters_of}
 use Rattle.sql_bind.proofs.from.is_known_before.Given as goal

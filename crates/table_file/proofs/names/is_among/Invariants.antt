@@ -1,5 +1,6 @@
 use Rattle.std.proofs.Common.{◌≡◌, drop}
-use Rattle.table_file.specs.Refusals.{column_names, is_among}
+use Rattle.qsr_value.specs.Names.{is_among}
+use Rattle.table_file.specs.Refusals.{column_names}
 use Rattle.table_file.proofs.names.is_among.Given as goal
 
 -- the name is to be found among the columns that are left

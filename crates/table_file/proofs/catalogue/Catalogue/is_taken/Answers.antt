@@ -1,7 +1,8 @@
 use Rattle.std.proofs.Common.{◌≡◌, ◌||◌, Option, Bool, true, false, List, ℕ, ap, sym, ◌∙◌}
 use Rattle.std.specs.Option.{is_some}
 use Rattle.qsr_value.specs.declared.schema.Column.{Column}
-use Rattle.table_file.specs.Refusals.{column_names, repeats, table_names, is_among}
+use Rattle.qsr_value.specs.Names.{is_among}
+use Rattle.table_file.specs.Refusals.{column_names, repeats, table_names}
 use Rattle.table_file.proofs.Naming.{among_place}
 use Rattle.table_file.proofs.catalogue.Catalogue.is_taken.Goals as goal
 
