@@ -5,8 +5,6 @@
 mod bytes;
 mod head;
 mod heads;
-#[cfg(test)]
-mod tests;
 
 pub use head::{ImageSide, JobHead, Phase, heads_differ};
 pub use heads::{commit_head, head_of};

@@ -1,23 +1,23 @@
 -- A listing over an area that has just some rows gives those, and none of them is bad.
-use Rattle.std.proofs.Common.{◌≡◌, ◌⊎◌, ℕ, zero, suc, ◌+◌, ◌-◌, ◌<◌, ◌≤◌, List, [], ◌∷◌, ◌++◌, length, take, drop, slice_index, Err, refl, sym, ap, subst, ◌∙◌, append-nil, append_assoc, arith, length-append, length-drop, ⊎_elim}
+use Rattle.std.proofs.Common.{◌≡◌, ℕ, ◌+◌, ◌-◌, ◌<◌, ◌≤◌, List, [], ◌∷◌, ◌++◌, length, take, drop, slice_index, Err, refl, sym, ap, subst, ◌∙◌, append-nil, append_assoc, arith, length-drop, ⊎_elim}
 use Rattle.std.proofs.Math.Seq.{take-append_seam}
 use Rattle.std.proofs.lemmas.List.{drop_all}
 use Rattle.std.proofs.lemmas.List.Elements.{All-drop, All-head, All-tail}
 use Rattle.std.specs.Prelude.{All}
 use Rattle.byteorder.specs.Endian.{little_number}
-use Rattle.byteorder.specs.Numbers.{length-bytes_low_first, little_number-reads_back}
+use Rattle.byteorder.specs.Numbers.{little_number-reads_back}
 use Rattle.page_store.specs.Format.{little}
 use Rattle.page_store.specs.Twin.{bytes_at}
 use Rattle.qsr_value.specs.Encoding.{encoded_row}
 use Rattle.qsr_value.specs.declared.row.Value.{Value}
 use Rattle.qsr_value.specs.declared.schema.Column.{Column}
 use Rattle.out_file.specs.Listing.{Appended, AreRows, IsBadFront, ListsFrom}
-use Rattle.out_file.specs.Output.{all_framed, framed, rows_bytes}
+use Rattle.out_file.specs.Output.{all_framed, rows_bytes}
 use Rattle.out_file.specs.Reading.{IsTurnFault}
 use Rattle.out_file.specs.declared.fault.OutFault.{OutFault}
 use Rattle.out_file.specs.declared.fault.OutFault.TheVariants.{OutFull, BadRow, Failed, Memory}
 use Rattle.out_file.proofs.AreaBytes.{bytes_on, bytes_stand, no_bytes}
-use Rattle.out_file.proofs.Listings.{IsRow, IsShort, IsShortRow, behind_over, behind_rows, framed_long}
+use Rattle.out_file.proofs.Listings.{IsRow, IsShortRow, behind_over, behind_rows, framed_long}
 use Rattle.out_file.proofs.Turns.{HasCome}
 use Rattle.out_file.proofs.Unfolded.{rows_cons, rows_nil}
 

@@ -1,8 +1,6 @@
 -- How a listing goes on from row to row, and that its rows are those that stand in the area.
-use Rattle.std.proofs.Common.{◌≡◌, ◌⊎◌, ℕ, zero, suc, ◌+◌, ◌-◌, ◌*◌, ◌^◌, ◌<◌, ◌≤◌, List, [], ◌∷◌, ◌++◌, length, take, drop, refl, sym, ap, subst, ◌∙◌, append-nil, append_assoc, arith, length-append, inl, inr}
-use Rattle.std.proofs.Math.Seq.{take-append_seam}
-use Rattle.std.proofs.lemmas.List.{drop_all}
-use Rattle.std.proofs.lemmas.List.Elements.{All-append, All-cons, All-drop, All-head, All-nil, All-tail}
+use Rattle.std.proofs.Common.{◌≡◌, ℕ, ◌+◌, ◌-◌, ◌<◌, ◌≤◌, List, [], ◌∷◌, ◌++◌, length, take, drop, refl, sym, ap, ◌∙◌, append-nil, append_assoc, arith, length-append}
+use Rattle.std.proofs.lemmas.List.Elements.{All-head, All-tail}
 use Rattle.std.specs.Prelude.{All}
 use Rattle.byteorder.specs.Endian.{little_number}
 use Rattle.byteorder.specs.Numbers.{length-bytes_low_first, little_number-reads_back}
@@ -12,11 +10,11 @@ use Rattle.qsr_value.specs.Encoding.{encoded_row}
 use Rattle.qsr_value.specs.Values.{AreTexts, Fits}
 use Rattle.qsr_value.specs.declared.row.Value.{Value}
 use Rattle.qsr_value.specs.declared.schema.Column.{Column}
-use Rattle.out_file.specs.Listing.{AreRows, IsBadFront, IsFront}
+use Rattle.out_file.specs.Listing.{AreRows}
 use Rattle.out_file.specs.Output.{all_framed, framed, rows_bytes}
 use Rattle.out_file.specs.Reading.{IsOnly, StandsTo}
 use Rattle.out_file.proofs.Unfolded.{framed_cons, framed_nil, rows_cons, rows_nil}
-use Rattle.out_file.proofs.AreaBytes.{bytes_before, bytes_on, length-bytes_at}
+use Rattle.out_file.proofs.AreaBytes.{bytes_on, length-bytes_at}
 
 -- bytes that are short enough to stand behind their length
 abbrev pub IsShort : List ℕ → Type 0

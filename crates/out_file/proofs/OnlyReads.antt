@@ -1,5 +1,5 @@
 -- Runs that only read pages.
-use Rattle.std.proofs.Common.{◌∙◌, refl, arith}
+use Rattle.std.proofs.Common.{◌∙◌, refl}
 use Rattle.disk_model.specs.View.{Stays, View}
 use Rattle.disk_model.specs.declared.disk.Disk.{Ghosts}
 use Rattle.disk_model.proofs.Runs.{no_call, stays_twice}

@@ -1,25 +1,20 @@
 -- A listing goes on by a row that is passed over or given out, until it ends.
-use Rattle.std.proofs.Common.{◌≡◌, ◌⊎◌, ℕ, zero, suc, ◌+◌, ◌-◌, ◌<◌, ◌≤◌, Bool, true, false, List, [], ◌∷◌, ◌++◌, length, take, drop, Result, Ok, Err, refl, sym, ap, subst, ◌∙◌, append-nil, append_assoc, arith, length-append, inl, inr, ⊎_elim}
-use Rattle.std.proofs.Math.Seq.{take-append_seam}
-use Rattle.std.proofs.lemmas.List.{drop_all}
-use Rattle.std.proofs.lemmas.List.Elements.{All-append, All-cons, All-drop, All-head, All-nil, All-tail, All-map}
+use Rattle.std.proofs.Common.{◌≡◌, ◌⊎◌, ℕ, ◌+◌, ◌-◌, ◌<◌, ◌≤◌, Bool, true, false, List, [], ◌∷◌, ◌++◌, length, Ok, Err, refl, sym, ap, subst, ◌∙◌, append-nil, append_assoc, arith, length-append, inl, inr, ⊎_elim}
+use Rattle.std.proofs.lemmas.List.Elements.{All-append, All-cons, All-head, All-nil, All-tail}
 use Rattle.std.specs.Prelude.{All, ⊤}
-use Rattle.byteorder.specs.Endian.{little_number}
-use Rattle.byteorder.specs.Numbers.{length-bytes_low_first, little_number-reads_back}
-use Rattle.page_store.specs.Format.{little}
 use Rattle.page_store.specs.Store.{Contents}
 use Rattle.page_store.specs.Twin.{bytes_at}
 use Rattle.qsr_value.specs.Encoding.{encoded_row}
 use Rattle.qsr_value.specs.declared.row.Value.{Value}
 use Rattle.qsr_value.specs.declared.schema.Column.{Column}
-use Rattle.out_file.specs.Listing.{Appended, AreRows, HasListed, IsBadFront, IsFront, IsListingEnd, Kept, ListsFrom}
+use Rattle.out_file.specs.Listing.{Appended, AreRows, HasListed, IsBadFront, IsFront, IsListingEnd, Kept}
 use Rattle.out_file.specs.Output.{all_framed, framed, rows_bytes}
 use Rattle.out_file.specs.Reading.{HasGiven, HasPassed, HasTurned, IsOnly, IsTurnFault, StandsTo, out_area}
 use Rattle.out_file.specs.declared.fault.OutFault.{OutFault}
 use Rattle.out_file.specs.declared.fault.OutFault.TheVariants.{OutFull, BadRow, Failed, Memory}
-use Rattle.out_file.proofs.AreaBytes.{bytes_before, bytes_behind, bytes_on, bytes_stand, length-bytes_at, no_bytes}
-use Rattle.out_file.proofs.Listings.{IsRow, IsShort, IsShortRow, behind_over, behind_rows, framed_more, rows_more}
-use Rattle.out_file.proofs.Unfolded.{framed_nil, rows_cons, rows_nil}
+use Rattle.out_file.proofs.AreaBytes.{bytes_before, bytes_behind, bytes_on, length-bytes_at, no_bytes}
+use Rattle.out_file.proofs.Listings.{IsRow, IsShort, IsShortRow, framed_more, rows_more}
+use Rattle.out_file.proofs.Unfolded.{framed_nil, rows_nil}
 
 -- The listing has come to a place, so many rows behind the start: some were passed over, and these were given out.
 pub record HasCome (schema : List Column) (from : ℕ) (honest : Type 0) (area : ℕ → ℕ) (at number : ℕ) (old new : (List (List Value) → Type 0)) : Type 0 where

@@ -5,7 +5,7 @@ use Rattle.std.proofs.lemmas.List.{length-take-le}
 use Rattle.page_store.specs.PageOrder.{job_part}
 use Rattle.page_store.specs.Store.{AreaHolds, Contents}
 use Rattle.page_store.specs.Twin.{bytes_at}
-use Rattle.out_file.specs.Reading.{HasPage, out_area}
+use Rattle.out_file.specs.Reading.{HasPage}
 use Rattle.out_file.specs.declared.window.Window.{Window}
 use Rattle.out_file.proofs.AreaBytes.{bytes_on, bytes_stand, bytes_within}
 

@@ -1,5 +1,5 @@
 -- What is listed of the bytes of an output file: the rows from one of them on, up to the end or to the first bad row.
-use Rattle.std.specs.Prelude.{◌≡◌, ◌⊎◌, ℕ, ◌+◌, ◌<◌, ◌≤◌, ⊤, List, [], ◌∷◌, ◌++◌, All, length, take, drop, Result, Ok, Err}
+use Rattle.std.specs.Prelude.{◌≡◌, ◌⊎◌, ℕ, ◌+◌, ◌<◌, ◌≤◌, ⊤, List, [], ◌++◌, All, length, take, drop, Result, Ok, Err}
 use Rattle.byteorder.specs.Endian.{little_number}
 use Rattle.qsr_value.specs.Encoding.{encoded_row}
 use Rattle.qsr_value.specs.Values.{AreTexts, Fits}

@@ -1,8 +1,7 @@
 -- How an output file is read: a page at a time, and from it a row at a time.
-use Rattle.std.specs.Prelude.{◌≡◌, ℕ, ◌+◌, ◌-◌, ◌*◌, ◌^◌, ◌<◌, ⊤, Bool, true, false, List, [], ◌∷◌, ◌++◌, length, Result, Ok, Err}
+use Rattle.std.specs.Prelude.{◌≡◌, ℕ, ◌+◌, ◌*◌, ◌<◌, ⊤, Bool, true, false, List, [], ◌∷◌, length}
 use Rattle.disk_model.specs.View.{Stays}
 use Rattle.disk_model.specs.declared.disk.Disk.{Ghosts}
-use Rattle.page_store.specs.Format.{little}
 use Rattle.page_store.specs.PageOrder.{job_part}
 use Rattle.page_store.specs.Store.{AreaHolds, Contents, IsReady, store_view}
 use Rattle.page_store.specs.Twin.{bytes_at}

@@ -4,13 +4,7 @@
 
 mod fault;
 mod file;
-#[cfg(test)]
-mod file_tests;
 mod listing;
-#[cfg(test)]
-mod listing_tests;
-#[cfg(test)]
-mod stop_tests;
 mod window;
 
 pub use fault::OutFault;

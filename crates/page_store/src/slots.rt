@@ -17,7 +17,7 @@ use qsr_value::Failed;
 const LAST_SEQUENCE: u8 = 2;
 
 /// What stands in front of the body of a slot.
-#[derive(Clone, Copy, Debug, PartialEq, Eq)]
+#[derive(Clone, Copy)]
 pub(crate) struct SlotHead {
     pub(crate) gate: u8,
     pub(crate) sequence: u8,
@@ -113,14 +113,14 @@ pub(crate) struct Heads {
 }
 
 /// Where the body of a current slot stands, and how many bytes it has.
-#[derive(Clone, Copy, Debug, PartialEq, Eq)]
+#[derive(Clone, Copy)]
 pub(crate) struct Found {
     pub(crate) at: u64,
     pub(crate) len: u32,
 }
 
 /// A slot that is to be replaced: where it begins, the byte of its gate, and the sequence that it gets.
-#[derive(Clone, Copy, Debug, PartialEq, Eq)]
+#[derive(Clone, Copy)]
 pub(crate) struct Stale {
     pub(crate) slot: u64,
     pub(crate) gate: u8,

@@ -1,33 +1,6 @@
 //! The program: it opens the disk, the input and the output, and hands them with its words to the top call.
 #![tactic(auto)]
 
-#[cfg(test)]
-mod example_tests;
-#[cfg(test)]
-mod explain_tests;
-#[cfg(test)]
-mod fault_tests;
-#[cfg(test)]
-mod format_tests;
-#[cfg(test)]
-mod load_tests;
-#[cfg(test)]
-mod long_tests;
-#[cfg(test)]
-mod rows_tests;
-#[cfg(test)]
-mod runs;
-#[cfg(test)]
-mod table_runs;
-#[cfg(test)]
-mod table_stop_tests;
-#[cfg(test)]
-mod table_tests;
-#[cfg(test)]
-mod tests;
-#[cfg(test)]
-mod turn_tests;
-
 use disk_model::{FileDisk, MemDisk};
 use qsr_io::{StdSink, StdSource};
 use qsr_top::{End, qsr_run, say_end};

@@ -6,8 +6,6 @@ mod memory;
 mod sink;
 mod source;
 mod std_streams;
-#[cfg(test)]
-mod tests;
 
 pub use memory::{MemSink, MemSource};
 pub use qsr_value::Failed;

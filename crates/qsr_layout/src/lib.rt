@@ -3,7 +3,5 @@
 
 mod fields;
 pub mod records;
-#[cfg(test)]
-mod tests;
 
 pub use fields::{Field, Layout, PAGE_BYTES, read_field, write_field};

@@ -24,7 +24,7 @@ pub const MAX_COLUMNS: usize = 16;
 pub const MAX_TEXT: u64 = 998;
 
 /// What the program is asked to do.
-#[derive(Clone, Copy, Debug, PartialEq, Eq)]
+#[derive(Clone, Copy)]
 pub enum Command {
     /// Reads the lines of a script from the input and answers each.
     Script,

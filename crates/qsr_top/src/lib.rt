@@ -17,8 +17,6 @@ mod reply;
 mod script;
 mod script_line;
 mod table;
-#[cfg(test)]
-mod tests;
 mod told;
 mod top;
 mod turns;

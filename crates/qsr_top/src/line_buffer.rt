@@ -17,7 +17,7 @@ pub const MAX_LINE: usize = 2048;
 const CAPACITY: usize = 65536;
 
 /// The bytes of an input that were read and not yet taken, which contracts see as a list.
-#[derive(Debug, Drop)]
+#[derive(Drop)]
 pub struct LineBuffer {
     bytes: Vec<u8>,
     start: usize,

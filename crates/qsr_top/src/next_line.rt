@@ -1,5 +1,5 @@
 /// What comes next in an input of lines.
-#[derive(Clone, Copy, Debug, PartialEq, Eq)]
+#[derive(Clone, Copy)]
 pub enum NextLine {
     /// A line of so many bytes, and the LF that ends it.
     Whole { len: usize },

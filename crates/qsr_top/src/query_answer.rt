@@ -10,7 +10,7 @@ use sql_tokens::Name;
 use std::alloc::{AllocError, Global};
 
 /// What is answered to a query. Places are counted in bytes of its text from 1.
-#[derive(Clone, Copy, Debug, PartialEq, Eq)]
+#[derive(Clone, Copy)]
 pub enum QueryAnswer {
     Syntax { at: u32 },
     WideLiteral { at: u32 },

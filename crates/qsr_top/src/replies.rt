@@ -20,7 +20,7 @@ const LONG: usize = 65536;
 const ROW_LINE: usize = 64;
 
 /// The text of replies that the sink was not given yet, so that it is called once for many.
-#[derive(Debug, Drop)]
+#[derive(Drop)]
 pub struct Replies {
     text: String,
 }

@@ -1,5 +1,5 @@
 /// What a line of a script is answered.
-#[derive(Clone, Copy, Debug, PartialEq, Eq)]
+#[derive(Clone, Copy)]
 pub enum Reply {
     /// The row is in the table.
     Added,

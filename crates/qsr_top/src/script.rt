@@ -32,7 +32,7 @@ use std::alloc::Global;
 pub const MAX_LINES: u32 = 16_777_216;
 
 /// A script that is being served.
-#[derive(Debug, Drop)]
+#[derive(Drop)]
 pub struct Script {
     alloc: Global,
     /// How many bytes the disk has.

@@ -5,7 +5,7 @@ use crate::number::count_of;
 use table_file::number_of;
 
 /// What a line of a script asks for.
-#[derive(Clone, Copy, Debug, PartialEq, Eq)]
+#[derive(Clone, Copy)]
 pub enum ScriptLine {
     /// `row V`: adds a row to the table.
     Row { value: i64 },

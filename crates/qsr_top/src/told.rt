@@ -11,7 +11,7 @@ use std::alloc::{AllocError, Global};
 use table_file::TableFault;
 
 /// What is told of a command on tables.
-#[derive(Clone, Copy, Debug, PartialEq, Eq)]
+#[derive(Clone, Copy)]
 pub enum Told {
     Created,
     /// The table has so many rows now.

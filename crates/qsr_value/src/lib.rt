@@ -2,8 +2,6 @@
 //! layer hands on.
 #![tactic(auto)]
 
-#[cfg(test)]
-mod codec_tests;
 mod compare;
 mod copies;
 mod decode;
@@ -14,11 +12,7 @@ mod laws;
 mod list;
 mod row;
 mod row_sink;
-#[cfg(test)]
-mod row_tests;
 mod schema;
-#[cfg(test)]
-mod tests;
 mod text;
 
 pub use compare::{SortKey, cmp_by, cmp_values};

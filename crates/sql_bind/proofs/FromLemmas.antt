@@ -1,5 +1,5 @@
 -- The tables of FROM one after another: what is asked of them, what they are bound to, and what is in scope.
-use Rattle.std.proofs.Common.{◌≡◌, sym, ap, ◌∙◌, subst, ℕ, ◌+◌, ◌<◌, List, [], ◌∷◌, ◌++◌, map, length, take, drop, get_or, Option, None, Result}
+use Rattle.std.proofs.Common.{◌≡◌, sym, ap, ◌∙◌, subst, ℕ, ◌+◌, ◌<◌, List, [], ◌∷◌, ◌++◌, map, length, drop, get_or, Option, None, Result}
 use Rattle.std.proofs.lemmas.List.{append_assoc, map-append}
 use Rattle.qsr_lists.proofs.Walking.{drop_next}
 use Rattle.sql_bind.specs.Bound.{BoundTable, bound_table, bound_tables}

@@ -3,7 +3,7 @@ use sql_front::{Aggregate, Comparison, Method};
 use sqlite_items::{Boxed, Items};
 
 /// A column of a select: its table's place in FROM, its place in the table, both from 0, and its kind.
-#[derive(Clone, Copy, Debug, PartialEq, Eq)]
+#[derive(Clone, Copy)]
 pub struct BoundColumn {
     pub table: usize,
     pub place: usize,
@@ -11,7 +11,7 @@ pub struct BoundColumn {
 }
 
 /// A side of a comparison.
-#[derive(Debug, Drop)]
+#[derive(Drop)]
 pub enum Operand {
     Column(BoundColumn),
     Number(i128),
@@ -20,7 +20,7 @@ pub enum Operand {
 
 /// A condition over the columns of a select.
 #[cycle(condition)]
-#[derive(Debug, Drop)]
+#[derive(Drop)]
 pub enum Condition {
     Compare(Operand, Comparison, Operand),
     Not(Boxed<Condition>),
@@ -29,7 +29,7 @@ pub enum Condition {
 }
 
 /// How a table joins those before it: rows are put beside one another, or rows are kept that meet some row of it, or none.
-#[derive(Clone, Copy, Debug, PartialEq, Eq)]
+#[derive(Clone, Copy)]
 pub enum JoinedBy {
     Product,
     Semi,
@@ -37,7 +37,7 @@ pub enum JoinedBy {
 }
 
 /// A table of FROM: its place among the tables that there are, from 0, how it joins those before it, and the conjuncts of its ON.
-#[derive(Debug, Drop)]
+#[derive(Drop)]
 pub struct BoundTable {
     pub table: usize,
     pub joined: JoinedBy,
@@ -45,7 +45,7 @@ pub struct BoundTable {
 }
 
 /// What a select gives of each row or group.
-#[derive(Clone, Copy, Debug, PartialEq, Eq)]
+#[derive(Clone, Copy)]
 pub enum BoundItem {
     Column(BoundColumn),
     Count,
@@ -54,7 +54,7 @@ pub enum BoundItem {
 
 /// A select: its tables, the conjuncts of its WHERE, its items, `*` being all columns of its tables, and its GROUP BY columns, none
 /// without GROUP BY.
-#[derive(Debug, Drop)]
+#[derive(Drop)]
 pub struct BoundSelect {
     pub distinct: bool,
     pub tables: Items<BoundTable>,
@@ -64,14 +64,14 @@ pub struct BoundSelect {
 }
 
 /// A key of ORDER BY: an item of the first select, by its place among the items from 0.
-#[derive(Clone, Copy, Debug, PartialEq, Eq)]
+#[derive(Clone, Copy)]
 pub struct BoundKey {
     pub item: usize,
     pub descending: bool,
 }
 
 /// What a plan is asked to use: rows of a block join's block, partitions of a hash join, rows of a sort's run, and a way of joining.
-#[derive(Clone, Copy, Debug, PartialEq, Eq)]
+#[derive(Clone, Copy)]
 pub struct PlanOptions {
     pub block: u128,
     pub parts: u128,
@@ -80,7 +80,7 @@ pub struct PlanOptions {
 }
 
 /// A query whose names are bound: the first select and those behind UNION ALL.
-#[derive(Debug, Drop)]
+#[derive(Drop)]
 pub struct Bound {
     pub first: BoundSelect,
     pub others: Items<BoundSelect>,

@@ -1,8 +1,6 @@
 //! Names and types of a query: what its tables and columns are, or the first thing in it that can't be.
 #![tactic(auto)]
 
-#[cfg(test)]
-mod answer_tests;
 mod binder;
 mod bound;
 mod conditions;

@@ -50,14 +50,14 @@ fn any_of(any: Items<Condition>) -> Condition
 }
 
 /// The units of a conjunction so far.
-#[derive(Debug, Drop)]
+#[derive(Drop)]
 pub(crate) enum OpenConjunction {
     Alone(Condition),
     Several(Items<Condition>),
 }
 
 /// A condition so far: the conjunctions that OR has closed, and the last one, which AND may make longer.
-#[derive(Debug, Drop)]
+#[derive(Drop)]
 pub(crate) struct OpenCondition {
     closed: Items<Condition>,
     last: OpenConjunction,

@@ -28,7 +28,7 @@ const LEAST_UNIT: usize = 7;
 const MOST_UNITS_KEPT: usize = 32;
 
 /// A word that joins a further unit.
-#[derive(Clone, Copy, Debug, PartialEq, Eq)]
+#[derive(Clone, Copy)]
 enum Joint {
     And,
     Or,

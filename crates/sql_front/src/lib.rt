@@ -1,8 +1,6 @@
 //! The front of SQL: a query's text is read into its tree, or refused at its first wrong place.
 #![tactic(auto)]
 
-#[cfg(test)]
-mod answer_tests;
 mod columns;
 mod conditions;
 mod fault;
@@ -17,8 +15,6 @@ mod selects;
 mod tables;
 mod tail;
 mod tree;
-#[cfg(test)]
-mod tree_tests;
 mod words;
 
 pub use fault::ParseFault;

@@ -8,7 +8,7 @@ use crate::input::Input;
 use sql_tokens::{Name, What};
 
 /// How two sides are compared.
-#[derive(Clone, Copy, Debug, PartialEq, Eq)]
+#[derive(Clone, Copy)]
 pub enum Comparison {
     Equal,
     Unequal,
@@ -19,7 +19,7 @@ pub enum Comparison {
 }
 
 /// What is computed of a column over the rows of a group.
-#[derive(Clone, Copy, Debug, PartialEq, Eq)]
+#[derive(Clone, Copy)]
 pub enum Aggregate {
     Sum,
     Min,
@@ -27,7 +27,7 @@ pub enum Aggregate {
 }
 
 /// A size that an option sets.
-#[derive(Clone, Copy, Debug, PartialEq, Eq)]
+#[derive(Clone, Copy)]
 pub enum Setting {
     Block,
     Parts,
@@ -35,7 +35,7 @@ pub enum Setting {
 }
 
 /// A way of joining that an option asks for.
-#[derive(Clone, Copy, Debug, PartialEq, Eq)]
+#[derive(Clone, Copy)]
 pub enum Method {
     Block,
     Index,
@@ -44,7 +44,7 @@ pub enum Method {
 }
 
 /// A word that is a name elsewhere.
-#[derive(Clone, Copy, Debug, PartialEq, Eq)]
+#[derive(Clone, Copy)]
 pub(crate) enum Unreserved {
     Left,
     Semi,

@@ -3,8 +3,6 @@
 
 mod aggregates;
 mod answer;
-#[cfg(test)]
-mod answer_tests;
 mod conditions;
 mod distinct;
 mod fault;

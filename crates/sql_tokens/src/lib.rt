@@ -4,11 +4,7 @@
 mod laws;
 mod lexer;
 mod scan;
-#[cfg(test)]
-mod tests;
 mod texts;
-#[cfg(test)]
-mod texts_tests;
 mod token;
 mod words;
 

@@ -13,7 +13,7 @@ pub struct TableEntry {
 
 /// What the catalogue says of an index: of which table and column it is, in which area it stands, and how many entries,
 /// leaves, pages and levels it has.
-#[derive(Clone, Copy, Debug, PartialEq, Eq)]
+#[derive(Clone, Copy, Debug)]
 pub struct IndexEntry {
     pub table: u8,
     pub column: u8,

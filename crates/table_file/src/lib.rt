@@ -2,27 +2,17 @@
 #![tactic(auto)]
 
 mod body;
-#[cfg(test)]
-mod body_changes_tests;
-#[cfg(test)]
-mod body_tests;
 mod catalogue;
 mod entries;
 mod entry_bytes;
 mod fault;
 mod fields;
-#[cfg(test)]
-mod fields_tests;
 mod laws;
 mod names;
 mod number;
 mod reading;
 mod table_list;
 mod writer;
-#[cfg(test)]
-mod writer_fixtures_tests;
-#[cfg(test)]
-mod writer_tests;
 
 pub use catalogue::Catalogue;
 pub use entries::{IndexEntry, TableEntry};

@@ -19,7 +19,7 @@ const MAX_COUNT: u8 = 16;
 const MAX_WIDTH: u32 = 1000;
 
 /// Why bytes gave no part of a catalogue.
-#[derive(Debug, Drop)]
+#[derive(Drop)]
 pub(crate) enum Unread {
     Memory,
     Bad,

@@ -1,10 +1,9 @@
-use Rattle.std.proofs.Common.{◌≡◌, ℕ, ◌+◌, ◌-◌, ◌*◌, ◌<◌, ◌≤◌, ◌∙◌, Bool, true, false, refl, sym, ap, subst, arith}
+use Rattle.std.proofs.Common.{◌≡◌, ℕ, ◌∙◌, true, refl, sym, subst, arith}
 use Rattle.std.proofs.lemmas.Bool.{leb-false, leb-true}
 use Rattle.std.proofs.lemmas.Result.{err_from_is_err_and}
 use Rattle.std.specs.Prelude.{leb}
 use Rattle.page_store.specs.Store.{store_view}
-use Rattle.page_store.specs.Twin.{bytes_at}
-use Rattle.out_file.specs.Reading.{HasPage, out_area}
+use Rattle.out_file.specs.Reading.{out_area}
 use Rattle.out_file.proofs.Ends.{has_all, lists_all, lists_some}
 use Rattle.out_file.proofs.OnlyReads.{none_read, read_twice}
 use Rattle.out_file.proofs.Turns.{HasCome, at_start, fault_then, listed_all, listed_none, listed_some, step, turned_then}

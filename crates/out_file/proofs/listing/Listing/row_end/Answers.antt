@@ -1,4 +1,4 @@
-use Rattle.std.proofs.Common.{◌≡◌, ℕ, ◌+◌, ◌-◌, ◌<◌, ◌∙◌, refl, sym, ap, arith, length, inl, inr}
+use Rattle.std.proofs.Common.{◌≡◌, ◌-◌, ◌∙◌, refl, sym, ap, arith, inl, inr}
 use Rattle.byteorder.specs.Endian.{little_number}
 use Rattle.page_store.specs.Twin.{bytes_at}
 use Rattle.out_file.specs.Reading.{out_area}

@@ -1,10 +1,10 @@
-use Rattle.std.proofs.Common.{rules, ◌≡◌, ℕ, ◌+◌, ◌-◌, ◌*◌, ◌<◌, ◌≤◌, ◌++◌, ◌∙◌, refl, sym, ap, arith, length-drop, length, take, drop, slice_index, subst, ◌/◌, ◌%◌}
+use Rattle.std.proofs.Common.{rules, ◌≡◌, ℕ, ◌+◌, ◌-◌, ◌*◌, ◌<◌, ◌++◌, ◌∙◌, refl, sym, ap, arith, length-drop, length, take, drop, slice_index, subst, ◌/◌, ◌%◌}
 use borrow.Rule.Slice.PartMut.{post_of, put_mid}
 use Rattle.std.proofs.lemmas.List.{length-take-le}
 use Rattle.page_store.specs.PageOrder.{job_part}
 use Rattle.page_store.specs.Store.{AreaHolds}
 use Rattle.page_store.specs.Twin.{bytes_at}
-use Rattle.out_file.specs.Reading.{HasPage, OnlyRead, out_area}
+use Rattle.out_file.specs.Reading.{out_area}
 use Rattle.out_file.proofs.AreaBytes.{no_bytes}
 use Rattle.out_file.proofs.OnlyReads.{none_read, read_twice}
 use Rattle.out_file.proofs.Windows.{has_page, left_long, page_piece, piece_more}
