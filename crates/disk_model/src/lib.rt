@@ -7,6 +7,8 @@ mod file;
 mod history;
 mod memory;
 mod positioned;
+#[cfg(test)]
+mod tests;
 
 pub use disk::Disk;
 pub use file::{FILE_DISK_SIZE, FileDisk};

@@ -1,5 +1,0 @@
-use Rattle.std.proofs.Common.{length}
-use Rattle.call_cases.proofs.values.fits.+are_each.Given as goal
-
-abbrev pub decreases-are_each : goal.decreases-are_each
-decreases-are_each l = length l.columns.now
