@@ -11,5 +11,5 @@ pub const FILLS: [Pick; 5] = [
     Pick::Fill(0x7F),
 ];
 
-/// More calls than a run makes: a stop behind so many is one behind all.
+/// More calls than a run makes: a stop after so many is one after all.
 pub const ALL_CALLS: u64 = 1_000_000;

@@ -6,11 +6,9 @@ use anyhow::{Context, Result, bail};
 use case_kit::{Words, bytes_of, number, push_bytes};
 use disk_model::{Disk, Failed, MemDisk};
 use page_store::format;
+use qsr_value::PAGE_BYTES;
 use std::alloc::{AllocError, Global};
 use std::fmt::Write;
-
-/// How many bytes a page has.
-const PAGE: usize = 4096;
 
 /// Writes bytes at a place.
 fn write_at(disk: &mut MemDisk, at: u64, bytes: &[u8]) -> Result<Result<(), Failed>> {
@@ -77,7 +75,7 @@ fn read_at(disk: &mut MemDisk, at: u64, out: &mut [u8]) -> Result<Result<(), Fai
 
 /// Reads bytes and says them.
 fn read(disk: &mut MemDisk, said: &mut String, at: u64, count: usize) -> Result<()> {
-    let mut page = [0x5A; PAGE];
+    let mut page = [0x5A; PAGE_BYTES];
     let out = page.get_mut(..count).context("more than a page")?;
     match read_at(disk, at, out)? {
         Ok(()) => say_bytes(said, out)?,
@@ -110,7 +108,7 @@ fn number_pages(disk: &mut MemDisk, word: &str) -> Result<()> {
     let (first, last) = pages_of(word)?;
     for page in first..=last {
         let byte = (page & 0xFF) as u8;
-        put(disk, 4096 * page as u64, &[byte; PAGE])?;
+        put(disk, 4096 * page as u64, &[byte; PAGE_BYTES])?;
     }
     Ok(())
 }
@@ -119,9 +117,9 @@ fn number_pages(disk: &mut MemDisk, word: &str) -> Result<()> {
 fn say_other(disk: &MemDisk, said: &mut String, page: u16) -> Result<()> {
     let rest = disk
         .bytes()
-        .get(PAGE * page as usize..)
+        .get(PAGE_BYTES * page as usize..)
         .context("no such page")?;
-    let bytes = rest.get(..PAGE).context("no such page")?;
+    let bytes = rest.get(..PAGE_BYTES).context("no such page")?;
     let byte = (page & 0xFF) as u8;
     if !bytes.iter().all(|other| *other == byte) {
         write!(said, " but {page} ")?;

@@ -1,4 +1,4 @@
-//! Steps on disks in memory, for programs of cases: disks that are made, kept and compared, calls of the device, crashes behind a call by
+//! Steps on disks in memory, for programs of cases: disks that are made, kept and compared, calls of the device, crashes after a call by
 //! each fill, and rounds of steps.
 #![tactic(auto)]
 

@@ -15,13 +15,13 @@ below_is at n i below = grind (arith, nat_tests)
 pub above_is : (at n i : ℕ) → at + n ≤ i → is_within at n i ≡ false
 above_is at n i above = grind (arith, nat_tests)
 
-get_before : (xs ys : List ℕ) (at n i : ℕ) → i < at → at ≤ length xs → get_or (put_mid at n xs ys) i 0 ≡ get_or xs i 0
+pub get_before : (xs ys : List ℕ) (at n i : ℕ) → i < at → at ≤ length xs → get_or (put_mid at n xs ys) i 0 ≡ get_or xs i 0
 get_before xs ys at n i below within = grind (arith, common_steps)
 
 get_inside : (xs ys : List ℕ) (at n i : ℕ) → at ≤ i → i < at + length ys → at ≤ length xs → get_or (put_mid at n xs ys) i 0 ≡ get_or ys (i - at) 0
 get_inside xs ys at n i above below within = grind (arith, common_steps)
 
-get_behind : (xs ys : List ℕ) (at n i : ℕ) → n ≡ length ys → at + n ≤ i → at + n ≤ length xs → get_or (put_mid at n xs ys) i 0 ≡ get_or xs i 0
+pub get_behind : (xs ys : List ℕ) (at n i : ℕ) → n ≡ length ys → at + n ≤ i → at + n ≤ length xs → get_or (put_mid at n xs ys) i 0 ≡ get_or xs i 0
 get_behind xs ys at n i count above within = grind (arith, common_steps)
 
 written_at : (xs ys : List ℕ) (at n i : ℕ) → n ≡ length ys → at + n ≤ length xs → get_or (put_mid at n xs ys) i 0 ≡ written at ys (slice_index xs) i

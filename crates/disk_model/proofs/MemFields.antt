@@ -8,7 +8,7 @@ use Rattle.std.proofs.lemmas.List.Elements.{All-push, All-weaker, recursion_from
 use Rattle.std.proofs.lemmas.List.Sums.{prefix_len-le-length, take_while-cons}
 use Rattle.disk_model.specs.Image.{Image}
 use Rattle.disk_model.specs.View.{IsSynced}
-use Rattle.disk_model.specs.Replay.{Event, State, Wrote, written, at_rest, after, IsImage, seen_is_image, picked, before, event_of, events_of, FitsIn}
+use Rattle.disk_model.specs.Replay.{Event, ReplayState, Wrote, written, at_rest, after, IsImage, seen_is_image, picked, before, event_of, events_of, FitsIn}
 use Rattle.disk_model.specs.MemDisk.{replayed, memory_view, IsSound}
 use Rattle.disk_model.specs.declared.history.Pick.{Pick}
 use Rattle.disk_model.specs.declared.history.Pick.TheVariants.{Old, New, Fill}
@@ -79,7 +79,7 @@ by_place : (since : Bool) (b synced : ℕ) → (cond since b synced ≡ synced) 
 by_place true b synced = inr refl
 by_place false b synced = inl refl
 
-picked_image : (pick : Pick) (s : State) → IsImage s s.seen → IsImage s (picked pick s)
+picked_image : (pick : Pick) (s : ReplayState) → IsImage s s.seen → IsImage s (picked pick s)
 picked_image Old s image = λ i. inl refl
 picked_image New s image = image
 picked_image (Fill b) s image = λ i. by_place (s.unsynced i) b (s.synced i)

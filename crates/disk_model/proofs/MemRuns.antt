@@ -4,7 +4,7 @@ use Rattle.std.proofs.lemmas.Bool.Decides.{leb_tells}
 use Rattle.std.proofs.lemmas.List.{length_push, take_all, take-append-le}
 use Rattle.disk_model.specs.Image.{Image, Holds, SameOutside}
 use Rattle.disk_model.specs.View.{View, LeavesOnly, Stays, Steps, IsSynced}
-use Rattle.disk_model.specs.Replay.{Event, State, Wrote, Synced, SyncFailed, is_within, written, at_rest, after, IsImage, seen_is_image}
+use Rattle.disk_model.specs.Replay.{Event, ReplayState, Wrote, Synced, SyncFailed, is_within, written, at_rest, after, IsImage, seen_is_image}
 use Rattle.disk_model.specs.MemDisk.{replayed, WasImage, is_now, memory_view}
 use Rattle.disk_model.proofs.Images.{within_is, below_is, above_is}
 use Rattle.disk_model.proofs.Runs.{no_call}
@@ -62,11 +62,11 @@ unwritten_outside at n synced c = record {
   above = λ i more. rw (above_is at n i more);
 }
 
-unwritten_image : (at : ℕ) (bytes : List ℕ) (s : State) (c : Image) → IsImage (after (Wrote at bytes) s) c → IsImage s (unwritten at (length bytes) s.synced c)
+unwritten_image : (at : ℕ) (bytes : List ℕ) (s : ReplayState) (c : Image) → IsImage (after (Wrote at bytes) s) c → IsImage s (unwritten at (length bytes) s.synced c)
 unfolding unwritten
 unwritten_image at bytes s c image i = unwritten_place (is_within at (length bytes) i) (s.unsynced i) (c i) (s.synced i) (image i)
 
-image_grows : (at : ℕ) (bytes : List ℕ) (s : State) (c : Image) → IsImage s c → IsImage (after (Wrote at bytes) s) c
+image_grows : (at : ℕ) (bytes : List ℕ) (s : ReplayState) (c : Image) → IsImage s c → IsImage (after (Wrote at bytes) s) c
 image_grows at bytes s c image i = ⊎_elim (λ same. inl same) (λ since. inr (or_keeps (s.unsynced i) (is_within at (length bytes) i) since)) (image i)
 
 pub write_steps : (base : List ℕ) (log : List Event) (call at : ℕ) (bytes : List ℕ)

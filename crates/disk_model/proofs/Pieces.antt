@@ -5,10 +5,6 @@ use Rattle.std.proofs.lemmas.Grind.{common_steps}
 use Rattle.std.proofs.lemmas.Bool.Decides.{leb_tells}
 use Rattle.disk_model.specs.Image.{Image, Holds, SameOutside}
 
--- the slice from a place to the end
-pub slice_to_end : (at : ℕ) (xs : List ℕ) → take (length xs - at) (drop at xs) ≡ drop at xs
-slice_to_end at xs = grind (arith, common_steps)
-
 -- what is written behind some bytes leaves them
 holds_before : (c d : Image) (at n : ℕ) (xs : List ℕ) → Holds c at xs → SameOutside (at + length xs) n c d → Holds d at xs
 holds_before c d at n xs holds same i less = same.below (at + i) (omega (arith, less)) ∙ holds i less
@@ -22,7 +18,7 @@ get_second xs ys i above = grind (arith, common_steps)
 length_both : (xs ys : List ℕ) → length (xs ++ ys) ≡ length xs + length ys
 length_both xs ys = grind (arith, common_steps)
 
-holds_both : (c : Image) (at : ℕ) (xs ys : List ℕ) → Holds c at xs → Holds c (at + length xs) ys → Holds c at (xs ++ ys)
+pub holds_both : (c : Image) (at : ℕ) (xs ys : List ℕ) → Holds c at xs → Holds c (at + length xs) ys → Holds c at (xs ++ ys)
 holds_both c at xs ys first second i less = elim (leb_tells (length xs) i) [
   | inl above ↦
       let place : at + length xs + (i - length xs) ≡ at + i = omega (arith, above.1) in

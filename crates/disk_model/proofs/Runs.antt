@@ -2,7 +2,7 @@
 use Rattle.std.proofs.Common.{◌≡◌, ℕ, zero, suc, ◌+◌, ◌-◌, ◌^◌, ◌<◌, ◌≤◌, inl, inr, arith, ap, ⊎_elim, sym, ◌∙◌, subst}
 use Rattle.std.proofs.Math.Nat.{min-eq_left, min-eq_right}
 use Rattle.std.proofs.lemmas.Bool.{cases_lt}
-use Rattle.qsr_value.specs.Causes.{CountsAtMost, count_behind, next_count}
+use Rattle.qsr_value.specs.Causes.{CountsAtMost, count_after, next_count}
 use Rattle.disk_model.specs.View.{View, LeavesOnly, EachImage, Stays, Steps, IsSynced}
 
 -- nothing was done
@@ -53,7 +53,7 @@ stays_twice first second = record {
   time = and_then first.time second.time (λ i now. first.crash i now);
 }
 
--- behind a sync each image has what reads give has
+-- after a sync each image has what reads give has
 pub synced_each : {I : Type 0} {a b : View I} (P : I → Type 0) → Stays a b → IsSynced b → (a.honest → P a.seen) → EachImage b P
 synced_each {a = a} {b = b} P stays synced has c now =
     subst P (sym (synced c now ∙ stays.seen)) (has (stays.time.honest.0 (b.honest_if_left c now)))
@@ -87,19 +87,19 @@ no_step v same = record {
   time = no_call v (λ i now. now);
 }
 
--- more calls behind some
-pub count_behind-more : (more calls count : ℕ) → count_behind (more + calls) count ≡ count_behind more (count_behind calls count)
-count_behind-more zero calls count = let none : 0 + calls ≡ calls = omega arith in ap (λ (n : ℕ). count_behind n count) none
-count_behind-more (suc more) calls count =
+-- more calls after some
+pub count_after-more : (more calls count : ℕ) → count_after (more + calls) count ≡ count_after more (count_after calls count)
+count_after-more zero calls count = let none : 0 + calls ≡ calls = omega arith in ap (λ (n : ℕ). count_after n count) none
+count_after-more (suc more) calls count =
     let one : suc more + calls ≡ suc (more + calls) = omega arith in
-    ap (λ (n : ℕ). count_behind n count) one ∙ ap next_count (count_behind-more more calls count)
+    ap (λ (n : ℕ). count_after n count) one ∙ ap next_count (count_after-more more calls count)
 
 -- calls, and then more calls
 pub most_twice : {first second old mid new : ℕ} (most : ℕ) → first + second ≤ most → CountsAtMost first old mid → CountsAtMost second mid new → CountsAtMost most old new
 most_twice {old = old} most within one other = record {
   calls = other.calls + one.calls;
   few = omega (arith, within, one.few, other.few);
-  exact = other.exact ∙ ap (count_behind other.calls) one.exact ∙ sym (count_behind-more other.calls one.calls old);
+  exact = other.exact ∙ ap (count_after other.calls) one.exact ∙ sym (count_after-more other.calls one.calls old);
 }
 
 -- no call · one
@@ -116,18 +116,18 @@ count_grows count fits = elim (cases_lt count (2 ^ 64 - 1)) [
   | inr last ↦ let one : next_count count ≡ 2 ^ 64 - 1 = min-eq_right (omega (arith, last)) in (omega (arith, one, fits), omega (arith, one))
 ]
 
-behind_grows : (calls count : ℕ) → count < 2 ^ 64 → (count ≤ count_behind calls count) × (count_behind calls count < 2 ^ 64)
+behind_grows : (calls count : ℕ) → count < 2 ^ 64 → (count ≤ count_after calls count) × (count_after calls count < 2 ^ 64)
 behind_grows zero count fits = (omega arith, fits)
 behind_grows (suc calls) count fits =
     let so_far = behind_grows calls count fits in
-    let one = count_grows (count_behind calls count) so_far.1 in
+    let one = count_grows (count_after calls count) so_far.1 in
     (omega (arith, so_far.0, one.0), one.1)
 
 -- where the count was within u64 it is at most what all those calls make of it
-pub most_counted : {most old new : ℕ} → old < 2 ^ 64 → CountsAtMost most old new → new ≤ count_behind most old
+pub most_counted : {most old new : ℕ} → old < 2 ^ 64 → CountsAtMost most old new → new ≤ count_after most old
 most_counted {most = most} {old = old} fits counts =
     let behind = behind_grows counts.calls old fits in
-    let more = behind_grows (most - counts.calls) (count_behind counts.calls old) behind.1 in
-    let all : count_behind most old ≡ count_behind (most - counts.calls) (count_behind counts.calls old) =
-    ap (λ (n : ℕ). count_behind n old) (omega (arith, counts.few)) ∙ count_behind-more (most - counts.calls) counts.calls old in
+    let more = behind_grows (most - counts.calls) (count_after counts.calls old) behind.1 in
+    let all : count_after most old ≡ count_after (most - counts.calls) (count_after counts.calls old) =
+    ap (λ (n : ℕ). count_after n old) (omega (arith, counts.few)) ∙ count_after-more (most - counts.calls) counts.calls old in
     omega (arith, counts.exact, more.0, all)

@@ -2,14 +2,14 @@
 use Rattle.std.proofs.Common.{◌≡◌, ℕ, ◌+◌, ◌<◌, ◌≤◌, Bool, true, false, cond, ◌||◌, List, [], ◌∷◌, ◌++◌, length, take, drop, get_or, arith, sym, ◌∙◌, refl, ap}
 use Rattle.std.proofs.lemmas.List.{take_more, map_push, take-map, drop-map, drop-append-le, take-append-le, drop_all, take_all, length_push, length-map, length-take-le}
 use Rattle.disk_model.specs.Image.{Image}
-use Rattle.disk_model.specs.Replay.{Deed, Event, State, Wrote, Synced, SyncFailed, at_rest, after, replay, picked, put_by, played, SplitsAt, deed_of, event_of, events_of, is_within}
+use Rattle.disk_model.specs.Replay.{Deed, Event, ReplayState, Wrote, Synced, SyncFailed, at_rest, after, replay, picked, put_by, played, SplitsAt, deed_of, event_of, events_of, is_within}
 use Rattle.disk_model.specs.declared.history.Pick.{Pick}
 use Rattle.disk_model.specs.declared.history.Pick.TheVariants.{Old, New, Fill}
 use Rattle.disk_model.specs.declared.history.What.{What}
 use Rattle.disk_model.specs.declared.history.What.TheVariants.{Write, Sync, FailedSync}
 use Rattle.disk_model.specs.declared.history.Record.{Record}
 
-pub replay-push : (s : State) (es : List Event) (e : Event) → replay s (es ++ e ∷ []) ≡ after e.deed (replay s es)
+pub replay-push : (s : ReplayState) (es : List Event) (e : Event) → replay s (es ++ e ∷ []) ≡ after e.deed (replay s es)
 replay-push s [] e = refl
 replay-push s (first ∷ es) e = replay-push (after first.deed s) es e
 
@@ -17,12 +17,12 @@ played-push : (pick : Pick) (c : Image) (es : List Event) (e : Event) → played
 played-push pick c [] e = refl
 played-push pick c (first ∷ es) e = played-push pick (put_by pick first.deed c) es e
 
-seen-after : (d : Deed) (s : State) → (after d s).seen ≡ put_by New d s.seen
+seen-after : (d : Deed) (s : ReplayState) → (after d s).seen ≡ put_by New d s.seen
 seen-after (Wrote at bytes) s = refl
 seen-after Synced s = refl
 seen-after SyncFailed s = refl
 
-seen-played : (s : State) (es : List Event) → (replay s es).seen ≡ played New es s.seen
+seen-played : (s : ReplayState) (es : List Event) → (replay s es).seen ≡ played New es s.seen
 seen-played s [] = refl
 seen-played s (e ∷ es) = seen-played (after e.deed s) es ∙ ap (played New es) (seen-after e.deed s)
 
@@ -37,7 +37,7 @@ cond-either true false b n = refl
 cond-either false true b n = refl
 cond-either false false b n = refl
 
-picked-after : (pick : Pick) (d : Deed) (s : State) → (d ≡ Synced → ⊥) → picked pick (after d s) ≡ put_by pick d (picked pick s)
+picked-after : (pick : Pick) (d : Deed) (s : ReplayState) → (d ≡ Synced → ⊥) → picked pick (after d s) ≡ put_by pick d (picked pick s)
 picked-after Old (Wrote at bytes) s unsynced = refl
 picked-after New (Wrote at bytes) s unsynced = refl
 picked-after (Fill b) (Wrote at bytes) s unsynced = λ i k. cond-either (s.unsynced k) (is_within at (length bytes) k) b (s.synced k) i

@@ -4,7 +4,7 @@ use Rattle.std.proofs.Common.{arith, inl, refl}
 use Rattle.std.proofs.lemmas.List.{take_all}
 use Rattle.disk_model.specs.Image.{Image}
 use Rattle.disk_model.specs.View.{View}
-use Rattle.disk_model.specs.Replay.{Deed, Event, State, at_rest, replay, IsImage, seen_is_image, events_of, FitsIn}
+use Rattle.disk_model.specs.Replay.{Deed, Event, ReplayState, at_rest, replay, IsImage, seen_is_image, events_of, FitsIn}
 use Rattle.disk_model.specs.declared.history.Record.{Record}
 
 pub record DiskState : Type 0 where
@@ -51,7 +51,7 @@ pub record SameSetup (old new : DiskState) : Type 0 where
   pub failing : new.failing ≡ old.failing
 
 -- what is on it after the deeds of a log
-abbrev pub replayed : List ℕ → List Event → State
+abbrev pub replayed : List ℕ → List Event → ReplayState
 replayed base log = replay (at_rest (slice_index base)) log
 
 -- at some moment from this length of the log on a crash might have left it

@@ -21,7 +21,7 @@ pub record Event : Type 0 where
   pub deed : Deed
 
 -- What is on a disk: what reads give, what was synced, and which bytes were written since.
-pub record State : Type 0 where
+pub record ReplayState : Type 0 where
   pub seen : Image
   pub synced : Image
   pub unsynced : ℕ → Bool
@@ -38,10 +38,10 @@ abbrev pub filled : ℕ → ℕ → ℕ → Image → Image
 filled at n b c i = if is_within at n i then b else c i
 
 -- all is synced, and this is what stands there
-abbrev pub at_rest : Image → State
+abbrev pub at_rest : Image → ReplayState
 at_rest c = record { seen = c; synced = c; unsynced = λ _. false }
 
-abbrev pub after : Deed → State → State
+abbrev pub after : Deed → ReplayState → ReplayState
 after (Wrote at bytes) s = record {
   seen = written at bytes s.seen;
   synced = s.synced;
@@ -50,16 +50,16 @@ after (Wrote at bytes) s = record {
 after Synced s = at_rest s.seen
 after SyncFailed s = s
 
-abbrev pub replay : State → List Event → State
+abbrev pub replay : ReplayState → List Event → ReplayState
 replay s [] = s
 replay s (e ∷ es) = replay (after e.deed s) es
 
 -- what a crash may leave: each byte is as it was synced, or was written since
-abbrev pub IsImage : State → Image → Type 0
+abbrev pub IsImage : ReplayState → Image → Type 0
 IsImage s c = (i : ℕ) → (c i ≡ s.synced i) ⊎ (s.unsynced i ≡ true)
 
 -- the image that a pick leaves: what was written since is as it was synced, as it was written, or b in each byte
-abbrev pub picked : Pick → State → Image
+abbrev pub picked : Pick → ReplayState → Image
 picked Old s = s.synced
 picked New s = s.seen
 picked (Fill b) s = λ i. if s.unsynced i then b else s.synced i
@@ -117,12 +117,12 @@ seen_by_place true unsynced new old synced image = inr (or_true unsynced)
 seen_by_place false unsynced new old synced (inl same) = inl same
 seen_by_place false unsynced new old synced (inr since) = inr (or_false unsynced ∙ since)
 
-seen_stays : (d : Deed) (s : State) → IsImage s s.seen → IsImage (after d s) (after d s).seen
+seen_stays : (d : Deed) (s : ReplayState) → IsImage s s.seen → IsImage (after d s) (after d s).seen
 seen_stays (Wrote at bytes) s image = λ i. seen_by_place (is_within at (length bytes) i) (s.unsynced i) (slice_index bytes (i - at)) (s.seen i) (s.synced i) (image i)
 seen_stays Synced s image = λ i. inl refl
 seen_stays SyncFailed s image = image
 
 -- what reads give is one of the images
-pub seen_is_image : (s : State) (es : List Event) → IsImage s s.seen → IsImage (replay s es) (replay s es).seen
+pub seen_is_image : (s : ReplayState) (es : List Event) → IsImage s s.seen → IsImage (replay s es) (replay s es).seen
 seen_is_image s [] image = image
 seen_is_image s (e ∷ es) image = seen_is_image (after e.deed s) es (seen_stays e.deed s image)

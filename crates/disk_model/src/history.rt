@@ -151,7 +151,7 @@ fn leave(bytes: &mut [u8], records: &[Record], pick: Pick)
     play(bytes, &records[last..], pick);
 }
 
-/// What a pick leaves behind the first so many calls of a disk that these bytes stood on at the start.
+/// What a pick leaves after the first so many calls of a disk that these bytes stood on at the start.
 pub(crate) fn image_of(
     alloc: Global,
     base: &[u8],

@@ -13,7 +13,7 @@ use std::alloc::Global;
 use std::marker::Model;
 
 /// A disk in memory. It records its writes and syncs, as many as it has room for, so that `image` can make what a
-/// crash behind any of its calls leaves. It fails at the calls with given numbers, counted from 0 over reads,
+/// crash after any of its calls leaves. It fails at the calls with given numbers, counted from 0 over reads,
 /// writes and syncs together, and at each write or sync that finds no room. The memory for the records is taken at
 /// the start, so that no call of the disk needs any.
 #[derive(Drop)]
@@ -88,7 +88,7 @@ impl MemDisk {
         })
     }
 
-    /// What a crash behind the first so many calls leaves, at rest: what was written since the last sync among them is
+    /// What a crash after the first so many calls leaves, at rest: what was written since the last sync among them is
     /// as the pick has it. Where all was synced, the old bytes and the new ones are what reads give.
     pub fn image(&self, alloc: Global, calls: u64, pick: Pick) -> Result<MemDisk, Memory>
         ensures exact { IfOk result (λ disk. (view_of disk).seen ≡ picked pick (replayed self.now.base (before calls self.now.log))) }

@@ -1,29 +1,19 @@
-// The head of a job as bytes in a page.
+// The head of a job as bytes.
 
-ghost use Rattle.std.specs.Prelude.{◌≡◌, ◌^◌, ◌<◌, ◌≤◌, ◌↔◌, IsTrue, MatchOption, length, take, ⊤};
-ghost use Rattle.qsr_layout.specs.JobHead.{job_head_field};
-ghost use Rattle.qsr_layout.specs.Page.{Holds, SameOutside};
-ghost use Rattle.page_store.specs.Format.{little};
+ghost use Rattle.std.specs.Prelude.{◌≡◌, ◌+◌, ◌≤◌, IfErr, MatchOption, length, take, ⊤};
 ghost use Rattle.page_store.specs.PageOrder.{AreSizes};
-ghost use Rattle.job_store.specs.JobHead.{AreNumbers, IsHead, IsHeadOf, IsNoHead, IsNone, head_bytes, phase_byte, side_byte};
+ghost use Rattle.part_codec.specs.Puts.{Puts};
+ghost use Rattle.part_codec.specs.Reading.{Gives, IsBad};
+ghost use Rattle.job_store.specs.JobHead.{IsHeadOf, IsNoJobHead, job_head_at, job_head_bytes, phase_byte, phase_of, side_byte, side_of, whole_head};
 
 use crate::{ImageSide, JobHead, Phase};
 use page_store::Sizes;
-use qsr_layout::records::{JOB_HEAD, JOB_HEAD_BYTES, JobHeadField, records_are_checked};
-use qsr_layout::{PAGE_BYTES, read_field, write_field};
+use part_codec::{Unread, byte_of, put_byte, put_u32, put_u64, u32_of, u64_of};
+use qsr_layout::records::JOB_HEAD_BYTES;
+use qsr_value::PAGE_BYTES;
 
 /// How many bytes a body of a twin takes at most.
 pub(crate) const BODY_BYTES: usize = 2 * PAGE_BYTES;
-
-/// Puts a number into a field of a head.
-fn put_field(page: &mut [u8; PAGE_BYTES], field: JobHeadField, value: u128)
-    requires { value < 256 ^ (job_head_field field).bytes }
-    ensures bytes { Holds page.new (job_head_field field).at (little (job_head_field field).bytes value) }
-    ensures outside { SameOutside (job_head_field field).at (job_head_field field).bytes page.old page.new }
-{
-    records_are_checked();
-    write_field(&JOB_HEAD, field.index(), page, value);
-}
 
 /// The byte of a phase.
 fn phase_byte(phase: Phase) -> u8
@@ -47,118 +37,111 @@ fn side_byte(side: ImageSide) -> u8
     }
 }
 
-/// A page with a head in its first bytes.
-pub(crate) fn head_page(head: &JobHead) -> [u8; PAGE_BYTES]
-    ensures { take JOB_HEAD_BYTES result ≡ head_bytes head.now }
+/// Puts the bytes of a head into a buffer from a place on, and answers the place behind them.
+fn put_head(head: &JobHead, body: &mut [u8], at: usize) -> usize
+    requires { at + JOB_HEAD_BYTES ≤ length body.old }
+    ensures { Puts body.old at (job_head_bytes head.now) body.new result }
 {
-    let mut page = [0; PAGE_BYTES];
-    put_field(
-        &mut page,
-        JobHeadField::Phase,
-        phase_byte(head.phase) as u128,
-    );
-    put_field(&mut page, JobHeadField::Rows, head.rows as u128);
-    put_field(&mut page, JobHeadField::End, head.end as u128);
-    put_field(&mut page, JobHeadField::Side, side_byte(head.side) as u128);
-    put_field(
-        &mut page,
-        JobHeadField::ImagePages,
-        head.image_pages as u128,
-    );
-    put_field(&mut page, JobHeadField::SpillUsed, head.spill_used as u128);
-    page
+    let at = put_byte(phase_byte(head.phase), body, at);
+    let at = put_u64(head.rows, body, at);
+    let at = put_u32(head.end, body, at);
+    let at = put_byte(side_byte(head.side), body, at);
+    let at = put_u32(head.image_pages, body, at);
+    put_u32(head.spill_used, body, at)
 }
 
-/// The number in a field of a head.
-fn field_of(page: &[u8; PAGE_BYTES], field: JobHeadField) -> u128
-    ensures bytes { Holds page.now (job_head_field field).at (little (job_head_field field).bytes result) }
-    ensures fits { result < 256 ^ (job_head_field field).bytes }
+/// The bytes of a head.
+pub(crate) fn head_bytes(head: &JobHead) -> [u8; JOB_HEAD_BYTES]
+    ensures { result ≡ job_head_bytes head.now }
 {
-    records_are_checked();
-    read_field(&JOB_HEAD, field.index(), page)
+    let mut bytes = [0; JOB_HEAD_BYTES];
+    put_head(head, &mut bytes, 0);
+    bytes
 }
 
 /// The phase of a byte.
-fn phase_of(byte: u8) -> Option<Phase>
-    ensures { MatchOption result (2 < byte) (λ phase. phase_byte phase ≡ byte) }
+fn phase_of(byte: u8) -> Phase
+    ensures { result ≡ phase_of byte }
 {
-    match byte {
-        0 => Some(Phase::Free),
-        1 => Some(Phase::Open),
-        2 => Some(Phase::Done),
-        _ => None,
+    if byte == 0 {
+        return Phase::Free;
     }
+    if byte == 1 { Phase::Open } else { Phase::Done }
 }
 
 /// The side of a byte.
-fn side_of(byte: u8) -> Option<ImageSide>
-    ensures { MatchOption result (2 < byte) (λ side. side_byte side ≡ byte) }
+fn side_of(byte: u8) -> ImageSide
+    ensures { result ≡ side_of byte }
 {
-    match byte {
-        0 => Some(ImageSide::Neither),
-        1 => Some(ImageSide::First),
-        2 => Some(ImageSide::Second),
-        _ => None,
+    if byte == 0 {
+        return ImageSide::Neither;
     }
-}
-
-/// The head in the first bytes of a page, whatever its numbers.
-fn any_head_in(page: &[u8; PAGE_BYTES]) -> Option<JobHead>
-    ensures head { MatchOption result (IsNoHead (take JOB_HEAD_BYTES page.now)) (λ head. head_bytes head ≡ take JOB_HEAD_BYTES page.now) }
-    ensures numbers { MatchOption result ⊤ AreNumbers }
-{
-    let phase = phase_of(field_of(page, JobHeadField::Phase) as u8)?;
-    let side = side_of(field_of(page, JobHeadField::Side) as u8)?;
-    Some(JobHead {
-        phase,
-        rows: field_of(page, JobHeadField::Rows) as u64,
-        end: field_of(page, JobHeadField::End) as u32,
-        side,
-        image_pages: field_of(page, JobHeadField::ImagePages) as u32,
-        spill_used: field_of(page, JobHeadField::SpillUsed) as u32,
-    })
-}
-
-/// Whether what a head tells of is within the areas of a store.
-pub(crate) fn is_head(head: &JobHead, sizes: &Sizes) -> bool
-    ensures { IsTrue result ↔ IsHead sizes.now head.now }
-{
-    head.end as u64 <= PAGE_BYTES as u64 * sizes.out as u64
-        && head.image_pages <= sizes.image
-        && head.spill_used <= sizes.spill
-}
-
-/// The head of the form in the first bytes of a page.
-fn head_in(page: &[u8; PAGE_BYTES], sizes: &Sizes) -> Option<JobHead>
-    requires { AreSizes sizes.now }
-    ensures { MatchOption result (IsNone sizes.now (take JOB_HEAD_BYTES page.now)) (IsHeadOf sizes.now (take JOB_HEAD_BYTES page.now)) }
-{
-    let head = any_head_in(page)?;
-    if is_head(&head, sizes) {
-        Some(head)
+    if byte == 1 {
+        ImageSide::First
     } else {
-        None
+        ImageSide::Second
     }
 }
 
-/// A page with these bytes at its front.
-fn page_with(bytes: &[u8]) -> [u8; PAGE_BYTES]
-    requires { length bytes.now ≤ PAGE_BYTES }
-    ensures { take (length bytes.now) result ≡ bytes.now }
+/// Reads a head that tells of what is within the areas of a store.
+#[tactic(auto, unfolding(crate::specs::JobHead::job_head_at))]
+fn head_of_front<'a>(sizes: &Sizes, bytes: &'a [u8]) -> Result<(JobHead, &'a [u8]), Unread>
+    requires { AreSizes sizes.now }
+    ensures head { Gives (λ x. (x.0, x.1.now)) result (job_head_at sizes.now bytes.now) }
+    ensures bad { IfErr result IsBad }
 {
-    let mut page = [0; PAGE_BYTES];
-    page[..bytes.len()].copy_from_slice(bytes);
-    page
+    let (phase, rest) = byte_of(0, 2, bytes)?;
+    let (rows, rest) = u64_of(0, u64::MAX, rest)?;
+    let (end, rest) = u32_of(0, PAGE_BYTES as u32 * sizes.out, rest)?;
+    let (side, rest) = byte_of(0, 2, rest)?;
+    let (image_pages, rest) = u32_of(0, sizes.image, rest)?;
+    let (spill_used, rest) = u32_of(0, sizes.spill, rest)?;
+    let head = JobHead {
+        phase: phase_of(phase),
+        rows,
+        end,
+        side: side_of(side),
+        image_pages,
+        spill_used,
+    };
+    Ok((head, rest))
+}
+
+/// Reads a head that is all of the bytes.
+#[tactic(auto, unfolding(crate::specs::JobHead::whole_head))]
+fn whole_head(sizes: &Sizes, bytes: &[u8]) -> Result<JobHead, Unread>
+    requires { AreSizes sizes.now }
+    ensures head { Gives (λ head. head) result (whole_head sizes.now bytes.now) }
+    ensures bad { IfErr result IsBad }
+{
+    let (head, rest) = head_of_front(sizes, bytes)?;
+    if !rest.is_empty() {
+        return Err(Unread::Bad { left: rest.len() });
+    }
+    Ok(head)
+}
+
+/// The head of the form that these bytes are.
+fn head_in(bytes: &[u8], sizes: &Sizes) -> Option<JobHead>
+    requires { AreSizes sizes.now }
+    ensures { MatchOption result (IsNoJobHead sizes.now bytes.now) (IsHeadOf sizes.now bytes.now) }
+{
+    match whole_head(sizes, bytes) {
+        Ok(head) => Some(head),
+        Err(Unread::Bad { .. }) => None,
+        // No part of a head takes memory.
+        Err(Unread::Memory) => None,
+    }
 }
 
 /// The head of the form that is the body of a twin, as it stands at the front of a buffer.
 pub(crate) fn head_in_body(buf: &[u8; BODY_BYTES], len: usize, sizes: &Sizes) -> Option<JobHead>
     requires { AreSizes sizes.now }
-    ensures head { MatchOption result (IsNone sizes.now (take len buf.now)) (IsHeadOf sizes.now (take len buf.now)) }
+    ensures head { MatchOption result (IsNoJobHead sizes.now (take len buf.now)) (IsHeadOf sizes.now (take len buf.now)) }
     ensures long { MatchOption result ⊤ (λ head. len ≡ JOB_HEAD_BYTES) }
 {
     if len != JOB_HEAD_BYTES {
         return None;
     }
-    head_in(&page_with(&buf[..JOB_HEAD_BYTES]), sizes)
+    head_in(&buf[..JOB_HEAD_BYTES], sizes)
 }

@@ -2,7 +2,7 @@
 
 ghost use Rattle.std.specs.Prelude.{◌≡◌};
 ghost use Rattle.page_store.specs.Format.{free_head};
-ghost use Rattle.job_store.specs.JobHead.{AreNumbers, head_bytes};
+ghost use Rattle.job_store.specs.JobHead.{AreNumbers, job_head_bytes};
 ghost use Rattle.job_store.specs.declared.head.TheConstants.JobHead.{FREE};
 
 /// How far a job is.
@@ -52,8 +52,8 @@ impl JobHead {
 }
 
 /// A law: two heads with the same bytes are one, and those of a free job are what an empty store has. A call does nothing,
-/// and a proof behind it knows the law.
+/// and a proof after it knows the law.
 pub const fn heads_differ()
-    ensures differ { (a b : JobHead) → AreNumbers a → AreNumbers b → head_bytes a ≡ head_bytes b → a ≡ b }
-    ensures free { head_bytes FREE ≡ free_head }
+    ensures differ { (a b : JobHead) → AreNumbers a → AreNumbers b → job_head_bytes a ≡ job_head_bytes b → a ≡ b }
+    ensures free { job_head_bytes FREE ≡ free_head }
 {}

@@ -2,17 +2,16 @@
 
 ghost use Rattle.std.specs.Prelude.{◌≡◌, ◌⊎◌, ◌+◌, ◌<◌, IfOk, IfErr, OnOk, MatchResult};
 ghost use Rattle.disk_model.specs.View.{After, EachImage, IsSynced, LeavesOnly, Stays};
-ghost use Rattle.qsr_value.specs.Causes.{CountsAtMost, CountsFault, count_behind};
+ghost use Rattle.qsr_value.specs.Causes.{CountsAtMost, CountsFault, count_after};
 ghost use Rattle.page_store.specs.Format.{CausedBy};
 ghost use Rattle.page_store.specs.Store.{BeforeOrAfter, IsReady, TwinChanged, store_view};
 ghost use Rattle.job_store.specs.Heads.{HasHead, HeadReplaced, IsHeadFault};
 ghost use Rattle.job_store.specs.JobHead.{IsHead};
 
 use crate::JobHead;
-use crate::bytes::{BODY_BYTES, head_in_body, head_page};
+use crate::bytes::{BODY_BYTES, head_bytes, head_in_body};
 use disk_model::Disk;
 use page_store::{Store, StoreFault, Twin};
-use qsr_layout::records::JOB_HEAD_BYTES;
 use qsr_value::Failed;
 
 /// Reads the head of a job, 0 to 7. It is `NotStore`, with the first page of the job's twin, where the body there is no
@@ -30,7 +29,7 @@ pub fn head_of<D: Disk>(store: &mut Store<'_, D>, job: u8) -> Result<JobHead, St
         (λ fault. CausedBy fault (D.faults_of store.old.disk.now) (D.faults_of store.new.disk.now)) }
 
     // Two reads of the slots' heads, and one of the body; no write and no sync.
-    ensures reads { IfOk result (λ head. D.reads_of store.new.disk.now ≡ count_behind 3 (D.reads_of store.old.disk.now)) }
+    ensures reads { IfOk result (λ head. D.reads_of store.new.disk.now ≡ count_after 3 (D.reads_of store.old.disk.now)) }
     ensures writes { D.writes_of store.new.disk.now ≡ D.writes_of store.old.disk.now }
     ensures syncs { D.syncs_of store.new.disk.now ≡ D.syncs_of store.old.disk.now }
 {
@@ -65,10 +64,10 @@ pub fn commit_head<D: Disk>(store: &mut Store<'_, D>, job: u8, head: &JobHead) -
     ensures sizes { store.new.sizes ≡ store.old.sizes }
     ensures same { store.new.disk.ghost_name ≡ store.old.disk.ghost_name }
     ensures faults { CountsFault result (D.faults_of store.old.disk.now) (D.faults_of store.new.disk.now) }
-    ensures reads { OnOk result (D.reads_of store.new.disk.now ≡ count_behind 2 (D.reads_of store.old.disk.now)) }
-    ensures writes { OnOk result ((D.writes_of store.new.disk.now ≡ count_behind 2 (D.writes_of store.old.disk.now)) ⊎ (D.writes_of store.new.disk.now ≡ count_behind 3 (D.writes_of store.old.disk.now))) }
+    ensures reads { OnOk result (D.reads_of store.new.disk.now ≡ count_after 2 (D.reads_of store.old.disk.now)) }
+    ensures writes { OnOk result ((D.writes_of store.new.disk.now ≡ count_after 2 (D.writes_of store.old.disk.now)) ⊎ (D.writes_of store.new.disk.now ≡ count_after 3 (D.writes_of store.old.disk.now))) }
     ensures writes_most { CountsAtMost 3 (D.writes_of store.old.disk.now) (D.writes_of store.new.disk.now) }
-    ensures syncs { OnOk result (D.syncs_of store.new.disk.now ≡ count_behind 3 (D.syncs_of store.old.disk.now)) }
+    ensures syncs { OnOk result (D.syncs_of store.new.disk.now ≡ count_after 3 (D.syncs_of store.old.disk.now)) }
 {
-    store.commit(Twin::Job(job), &head_page(head)[..JOB_HEAD_BYTES])
+    store.commit(Twin::Job(job), &head_bytes(head))
 }

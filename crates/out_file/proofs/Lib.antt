@@ -1,9 +1,9 @@
 pub mod AreaBytes
 pub mod Ends
 pub mod Faults
+pub mod ListingSteps
 pub mod Listings
 pub mod OnlyReads
 pub mod Outputs
-pub mod Turns
 pub mod Unfolded
 pub mod Windows

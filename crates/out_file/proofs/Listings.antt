@@ -1,5 +1,5 @@
 -- How a listing goes on from row to row, and that its rows are those that stand in the area.
-use Rattle.std.proofs.Common.{◌≡◌, ℕ, ◌+◌, ◌-◌, ◌<◌, ◌≤◌, List, [], ◌∷◌, ◌++◌, length, take, drop, refl, sym, ap, ◌∙◌, append-nil, append_assoc, arith, length-append}
+use Rattle.std.proofs.Common.{◌≡◌, ℕ, ◌+◌, ◌-◌, ◌<◌, ◌≤◌, List, [], ◌∷◌, ◌++◌, length, take, drop, refl, sym, ap, ◌∙◌, append_assoc, arith, length-append}
 use Rattle.std.proofs.lemmas.List.Elements.{All-head, All-tail}
 use Rattle.std.specs.Prelude.{All}
 use Rattle.byteorder.specs.Endian.{little_number}
@@ -10,10 +10,11 @@ use Rattle.qsr_value.specs.Encoding.{encoded_row}
 use Rattle.qsr_value.specs.Values.{AreTexts, Fits}
 use Rattle.qsr_value.specs.declared.row.Value.{Value}
 use Rattle.qsr_value.specs.declared.schema.Column.{Column}
-use Rattle.out_file.specs.Listing.{AreRows}
-use Rattle.out_file.specs.Output.{all_framed, framed, rows_bytes}
+use Rattle.out_file.specs.Listing.{AreOutRows}
+use Rattle.row_page.specs.Framed.{framed, rows_bytes}
+use Rattle.row_page.proofs.Framing.{length-framed}
 use Rattle.out_file.specs.Reading.{IsOnly, StandsTo}
-use Rattle.out_file.proofs.Unfolded.{framed_cons, framed_nil, rows_cons, rows_nil}
+use Rattle.out_file.proofs.Unfolded.{all_framed, framed_cons, framed_nil, rows_cons, rows_nil}
 use Rattle.out_file.proofs.AreaBytes.{bytes_on, length-bytes_at}
 
 -- bytes that are short enough to stand behind their length
@@ -42,26 +43,7 @@ one_frame xs ys s t x_short y_short same =
     same_front xs ys s t long behind.1
 
 pub framed_long : (bytes rest : List ℕ) → length (framed bytes ++ rest) ≡ 2 + (length bytes + length rest)
-framed_long bytes rest =
-    let number = little 2 (length bytes) in
-    omega (arith, length-append (number ++ bytes) rest, length-append number bytes, length-bytes_low_first 0 2 (length bytes))
-
--- one more at the end
-pub framed_more : (over : List (List ℕ)) (bytes : List ℕ) → all_framed (over ++ bytes ∷ []) ≡ all_framed over ++ framed bytes
-framed_more [] bytes = framed_cons bytes [] ∙ ap (λ xs. framed bytes ++ xs) framed_nil ∙ append-nil (framed bytes) ∙ ap (λ xs. xs ++ framed bytes) (sym framed_nil)
-framed_more (x ∷ xs) bytes =
-    framed_cons x (xs ++ bytes ∷ []) ∙ ap (λ ys. framed x ++ ys) (framed_more xs bytes) ∙ sym (append_assoc (framed x) (all_framed xs) (framed bytes))
-    ∙ ap (λ ys. ys ++ framed bytes) (sym (framed_cons x xs))
-
-pub rows_more : (schema : List Column) (rows : List (List Value)) (row : List Value) → rows_bytes schema (rows ++ row ∷ []) ≡ rows_bytes schema rows ++ framed (encoded_row schema row)
-rows_more schema [] row =
-    let last = framed (encoded_row schema row) in
-    rows_cons schema row [] ∙ ap (λ xs. last ++ xs) (rows_nil schema) ∙ append-nil last ∙ ap (λ xs. xs ++ last) (sym (rows_nil schema))
-rows_more schema (r ∷ rs) row =
-    let front = framed (encoded_row schema r) in
-    let last = framed (encoded_row schema row) in
-    rows_cons schema r (rs ++ row ∷ []) ∙ ap (λ ys. front ++ ys) (rows_more schema rs row) ∙ sym (append_assoc front (rows_bytes schema rs) last)
-    ∙ ap (λ ys. ys ++ last) (sym (rows_cons schema r rs))
+framed_long bytes rest = omega (arith, length-append (framed bytes) rest, length-framed bytes)
 
 -- the row's bytes are short enough
 abbrev pub IsShortRow : List Column → List Value → Type 0
@@ -75,17 +57,17 @@ over_apart : (x : List ℕ) (xs : List (List ℕ)) (rest : List ℕ) → all_fra
 over_apart x xs rest = ap (λ ys. ys ++ rest) (framed_cons x xs) ∙ append_assoc (framed x) (all_framed xs) rest
 
 rows_apart : (schema : List Column) (r : List Value) (rs : List (List Value)) (rest : List ℕ)
-    → rows_bytes schema (r ∷ rs) ++ rest ≡ framed (encoded_row schema r) ++ (rows_bytes schema rs ++ rest)
-rows_apart schema r rs rest = ap (λ ys. ys ++ rest) (rows_cons schema r rs) ∙ append_assoc (framed (encoded_row schema r)) (rows_bytes schema rs) rest
+    → rows_bytes (encoded_row schema) (r ∷ rs) ++ rest ≡ framed (encoded_row schema r) ++ (rows_bytes (encoded_row schema) rs ++ rest)
+rows_apart schema r rs rest = ap (λ ys. ys ++ rest) (rows_cons schema r rs) ∙ append_assoc (framed (encoded_row schema r)) (rows_bytes (encoded_row schema) rs) rest
 
 -- behind some rows that were passed over stand the others
 pub behind_over : (schema : List Column) (over : List (List ℕ)) (all : List (List Value)) (rest : List ℕ) → All IsShort over → All (IsShortRow schema) all
-    → all_framed over ++ rest ≡ rows_bytes schema all → rest ≡ rows_bytes schema (drop (length over) all)
+    → all_framed over ++ rest ≡ rows_bytes (encoded_row schema) all → rest ≡ rows_bytes (encoded_row schema) (drop (length over) all)
 behind_over schema [] all rest over_short short same = ap (λ xs. xs ++ rest) (sym framed_nil) ∙ same
 behind_over schema (x ∷ xs) [] rest over_short short same =
     absurd (omega (arith, ap length (sym (over_apart x xs rest) ∙ same ∙ rows_nil schema), framed_long x (all_framed xs ++ rest)))
 behind_over schema (x ∷ xs) (r ∷ rs) rest over_short short same =
-    let parts = one_frame x (encoded_row schema r) (all_framed xs ++ rest) (rows_bytes schema rs) (All-head IsShort x xs over_short) (All-head (IsShortRow schema) r rs short)
+    let parts = one_frame x (encoded_row schema r) (all_framed xs ++ rest) (rows_bytes (encoded_row schema) rs) (All-head IsShort x xs over_short) (All-head (IsShortRow schema) r rs short)
     (sym (over_apart x xs rest) ∙ same ∙ rows_cons schema r rs) in
     behind_over schema xs rs rest (All-tail IsShort x xs over_short) (All-tail (IsShortRow schema) r rs short) parts.1
 
@@ -93,15 +75,15 @@ behind_over schema (x ∷ xs) (r ∷ rs) rest over_short short same =
 pub record Others (schema : List Column) (rows all : List (List Value)) (rest : List ℕ) : Type 0 where
   pub others : List (List Value)
   pub parts : all ≡ rows ++ others
-  pub are : rest ≡ rows_bytes schema others
+  pub are : rest ≡ rows_bytes (encoded_row schema) others
 
 pub behind_rows : (schema : List Column) (rows all : List (List Value)) (rest : List ℕ) → All (IsOnly schema) rows → All (IsShortRow schema) rows
-    → AreRows schema all → All (IsShortRow schema) all → rows_bytes schema rows ++ rest ≡ rows_bytes schema all → Others schema rows all rest
+    → AreOutRows schema all → All (IsShortRow schema) all → rows_bytes (encoded_row schema) rows ++ rest ≡ rows_bytes (encoded_row schema) all → Others schema rows all rest
 behind_rows schema [] all rest only rows_short are short same = record { others = all; parts = refl; are = ap (λ xs. xs ++ rest) (sym (rows_nil schema)) ∙ same }
 behind_rows schema (q ∷ qs) [] rest only rows_short are short same =
-    absurd (omega (arith, ap length (sym (rows_apart schema q qs rest) ∙ same ∙ rows_nil schema), framed_long (encoded_row schema q) (rows_bytes schema qs ++ rest)))
+    absurd (omega (arith, ap length (sym (rows_apart schema q qs rest) ∙ same ∙ rows_nil schema), framed_long (encoded_row schema q) (rows_bytes (encoded_row schema) qs ++ rest)))
 behind_rows schema (q ∷ qs) (r ∷ rs) rest only rows_short are short same =
-    let parts = one_frame (encoded_row schema q) (encoded_row schema r) (rows_bytes schema qs ++ rest) (rows_bytes schema rs) (All-head (IsShortRow schema) q qs rows_short) (All-head (IsShortRow schema) r rs short)
+    let parts = one_frame (encoded_row schema q) (encoded_row schema r) (rows_bytes (encoded_row schema) qs ++ rest) (rows_bytes (encoded_row schema) rs) (All-head (IsShortRow schema) q qs rows_short) (All-head (IsShortRow schema) r rs short)
     (sym (rows_apart schema q qs rest) ∙ same ∙ rows_cons schema r rs) in
     let is = All-head (IsRow schema) r rs are in
     let one : q ≡ r = (All-head (IsOnly schema) q qs only).only r is.0 is.1 parts.0 in

@@ -1,30 +1,23 @@
 -- How the bytes of an output file go together: those that are written, those that are held back, and those of a new row.
-use Rattle.std.proofs.Common.{◌≡◌, ℕ, ◌+◌, ◌-◌, ◌*◌, ◌≤◌, List, [], ◌∷◌, ◌++◌, length, take, drop, refl, sym, ap, ◌∙◌, subst, inl, inr, arith, length-append, length-drop, append_assoc}
-use Rattle.std.proofs.lemmas.List.{append-nil, drop-append-le, drop-drop, drop-take, get_or_append_left, get_or-append_right, length-take-le, take-append-le, take_all}
-use Rattle.std.proofs.lemmas.Bool.{cases_lt}
-use Rattle.std.proofs.Math.Seq.{take-add, take-append-add, take-append_seam}
-use Rattle.page_store.specs.Format.{little}
+use Rattle.std.proofs.Common.{◌≡◌, ℕ, ◌+◌, ◌-◌, ◌*◌, ◌≤◌, List, [], ◌∷◌, ◌++◌, length, take, drop, refl, sym, ap, ◌∙◌, subst, arith, length-append, length-drop}
+use Rattle.std.proofs.lemmas.List.{drop-append-le, drop-drop, drop-take, length-take-le, take-append-le, take_all}
+use Rattle.std.proofs.Math.Seq.{take-add}
 use Rattle.page_store.specs.PageOrder.{job_part}
 use Rattle.page_store.specs.Store.{AreaHolds, Contents}
+use Rattle.page_store.proofs.AreaPieces.{holds_both}
 use Rattle.qsr_value.specs.Encoding.{encoded_row}
 use Rattle.qsr_value.specs.declared.schema.Column.{Column}
 use Rattle.qsr_value.specs.declared.row.Value.{Value}
-use Rattle.out_file.specs.Output.{HasOut, OutGrows, OutHolds, framed, held_bytes, rows_bytes}
+use Rattle.row_page.specs.Framed.{framed, rows_bytes}
+use Rattle.row_page.proofs.Framing.{length-framed}
+use Rattle.out_file.specs.Output.{HasOut, OutGrows, OutHolds, held_bytes}
 use Rattle.out_file.specs.declared.file.OutFile.{OutFile}
 
--- the bytes of a row stand behind those of the rows before it
-pub rows_bytes-push : (schema : List Column) (rows : List (List Value)) (row : List Value)
-    → rows_bytes schema (rows ++ row ∷ []) ≡ rows_bytes schema rows ++ framed (encoded_row schema row)
-rows_bytes-push schema [] row = append-nil (framed (encoded_row schema row))
-rows_bytes-push schema (first ∷ rest) row =
-    ap (λ (l : List ℕ). framed (encoded_row schema first) ++ l) (rows_bytes-push schema rest row)
-    ∙ sym (append_assoc (framed (encoded_row schema first)) (rows_bytes schema rest) (framed (encoded_row schema row)))
-
 -- each row has the two bytes of its length
-pub rows_few : (schema : List Column) (rows : List (List Value)) → 2 * length rows ≤ length (rows_bytes schema rows)
+pub rows_few : (schema : List Column) (rows : List (List Value)) → 2 * length rows ≤ length (rows_bytes (encoded_row schema) rows)
 rows_few schema [] = omega arith
 rows_few schema (row ∷ rest) =
-    omega (arith, rows_few schema rest, length-append (framed (encoded_row schema row)) (rows_bytes schema rest), length-append (little 2 (length (encoded_row schema row))) (encoded_row schema row))
+    omega (arith, rows_few schema rest, length-append (framed (encoded_row schema row)) (rows_bytes (encoded_row schema) rest), length-framed (encoded_row schema row))
 
 -- nothing was written
 pub none_grows : (job at : ℕ) (m : Contents) → OutGrows job at m m
@@ -41,23 +34,12 @@ front_stays job at bytes old new long grows holds i before =
     let here : 0 + i ≡ i = omega arith in
     rw here (grows.below i (omega arith) ∙ ap (old.area (job_part job 4)) (sym here) ∙ holds i before)
 
--- bytes that stand behind others stand with them
-pub holds_both : (job at : ℕ) (front rest : List ℕ) (m : Contents) → length front ≡ at → OutHolds job front m → AreaHolds (job_part job 4) at rest m
-    → OutHolds job (front ++ rest) m
-holds_both job at front rest m long holds more i before = elim (cases_lt i (length front)) [
-  | inl low ↦ holds i low ∙ sym (get_or_append_left front rest 0 i low)
-  | inr high ↦
-      let place : 0 + i ≡ at + (i - at) = omega arith in
-      ap (m.area (job_part job 4)) place ∙ more (i - at) (omega (arith, before, length-append front rest, long, high))
-      ∙ sym (get_or-append_right front rest at i 0 long (omega arith))
-]
-
 -- What is written next of an output, behind what stood before it: the first n bytes that are left.
 pub next_stands : (job at n : ℕ) (bytes : List ℕ) (old new : Contents) → at ≤ length bytes → OutGrows job at old new → OutHolds job (take at bytes) old
     → AreaHolds (job_part job 4) at (take n (drop at bytes)) new → OutHolds job (take (at + n) bytes) new
 next_stands job at n bytes old new long grows holds more =
     let count : length (take at bytes) ≡ at = length-take-le at bytes long in
-    rw (take-add at n bytes) (holds_both job at (take at bytes) (take n (drop at bytes)) new count
+    rw (take-add at n bytes) (holds_both (job_part job 4) 0 at (take at bytes) (take n (drop at bytes)) new (omega (arith, count))
     (front_stays job at (take at bytes) old new (omega (arith, count)) grows holds) more)
 
 -- what is left behind a front of what was left
@@ -67,17 +49,6 @@ left_behind at n m bytes rest left = sym (drop-drop n at bytes) ∙ ap (drop n) 
 pub front_left : (at n m : ℕ) (bytes rest : List ℕ) → drop at bytes ≡ take (n + m) rest → n ≤ length rest → take n (drop at bytes) ≡ take n rest
 front_left at n m bytes rest left some =
     rw left (ap (take n) (take-add n m rest) ∙ take-append-le n (take n rest) (take m (drop n rest)) (omega (arith, length-take-le n rest some)) ∙ take_all n (take n rest) (omega (arith, length-take-le n rest some)))
-
--- a row in the buffer, behind what was held back there
-pub row_behind : (front held n : ℕ) (page row rest : List ℕ) → front + held ≤ length page → n ≡ held + length row
-    → take n (drop front (take (front + held) page ++ (row ++ rest))) ≡ take held (drop front page) ++ row
-row_behind front held n page row rest long count =
-    let before : length (take (front + held) page) ≡ front + held = length-take-le (front + held) page long in
-    let has : length (take held (drop front page)) ≡ held = length-take-le held (drop front page) (omega (arith, length-drop front page)) in
-    let all : drop front (take (front + held) page ++ (row ++ rest)) ≡ take held (drop front page) ++ (row ++ rest) =
-    drop-append-le front (take (front + held) page) (row ++ rest) (omega (arith, before)) ∙ ap (λ (l : List ℕ). l ++ (row ++ rest)) (drop-take front held page) in
-    let size : n ≡ length (take held (drop front page)) + length row = omega (arith, has, count) in
-    rw (all, size) (take-append-add (take held (drop front page)) (row ++ rest) (length row) ∙ ap (λ (l : List ℕ). take held (drop front page) ++ l) (take-append_seam row rest))
 
 -- what was held back in the buffer stays in front of what is put behind it
 pub held_kept : (front held from : ℕ) (page put more : List ℕ) → front + held ≤ length page → from ≡ front + held → put ≡ take from page ++ more
@@ -95,7 +66,7 @@ pub has_still : (schema : List Column) (rows : List (List Value)) (old new : Out
     → new.job ≡ old.job → new.rows ≡ old.rows → new.written ≡ old.written → new.held ≡ old.held → held_bytes new ≡ held_bytes old
     → OutGrows old.job old.written before after → HasOut schema rows old before → HasOut schema rows new after
 has_still schema rows old new before after job count written held bytes grows has =
-    let all = rows_bytes schema rows in
+    let all = rows_bytes (encoded_row schema) rows in
     let long : length all ≡ old.written + old.held = has.long in
     let some : length (take old.written all) ≡ old.written = length-take-le old.written all (omega (arith, long)) in
     let stands : OutHolds old.job (take old.written all) after =

@@ -9,7 +9,7 @@ use Rattle.out_file.specs.Reading.{HasPage}
 use Rattle.out_file.specs.declared.window.Window.{Window}
 use Rattle.out_file.proofs.AreaBytes.{bytes_on, bytes_stand, bytes_within}
 
--- a window that was turned to a page has it
+-- a window that was stepped to a page has it
 pub has_page : (w : Window) (m : Contents) (page : ℕ) → w.next ≡ page + 1 → AreaHolds (job_part w.job 4) (4096 * page) w.bytes m → HasPage w m
 has_page w m page next holds = λ other is. let same : page ≡ other = omega arith in subst (λ (p : ℕ). AreaHolds (job_part w.job 4) (4096 * p) w.bytes m) same holds
 

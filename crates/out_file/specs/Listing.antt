@@ -5,13 +5,13 @@ use Rattle.qsr_value.specs.Encoding.{encoded_row}
 use Rattle.qsr_value.specs.Values.{AreTexts, Fits}
 use Rattle.qsr_value.specs.declared.schema.Column.{Column}
 use Rattle.qsr_value.specs.declared.row.Value.{Value}
+use Rattle.row_page.specs.Framed.{rows_bytes}
 use Rattle.out_file.specs.declared.fault.OutFault.{OutFault}
 use Rattle.out_file.specs.declared.fault.OutFault.TheVariants.{OutFull, BadRow, Failed, Memory}
-use Rattle.out_file.specs.Output.{all_framed, rows_bytes}
 
 -- each row is one of the schema
-abbrev pub AreRows : List Column → List (List Value) → Type 0
-AreRows schema rows = All (λ row. Fits schema row × AreTexts row) rows
+abbrev pub AreOutRows : List Column → List (List Value) → Type 0
+AreOutRows schema rows = All (λ row. Fits schema row × AreTexts row) rows
 
 -- where a sink had some rows it has these behind them · it has the same
 abbrev pub Appended : List (List Value) → (List (List Value) → Type 0) → (List (List Value) → Type 0) → Type 0
@@ -22,12 +22,12 @@ Kept old new = (told : List (List Value)) → old told → new told
 
 -- The first `at` bytes are rows: so many that are passed over by their lengths alone, all of the first `from` of them, and
 -- behind them these.
-pub record IsFront (schema : List Column) (from : ℕ) (bytes : List ℕ) (at : ℕ) (over : List (List ℕ)) (rows : List (List Value)) : Type 0 where
+pub record IsOutFront (schema : List Column) (from : ℕ) (bytes : List ℕ) (at : ℕ) (over : List (List ℕ)) (rows : List (List Value)) : Type 0 where
   pub short : All (λ row. length row < 65536) over
   pub most : length over ≤ from
   pub all : (length over ≡ from) ⊎ (rows ≡ [])
   pub within : at ≤ length bytes
-  pub read : take at bytes ≡ all_framed over ++ rows_bytes schema rows
+  pub read : take at bytes ≡ rows_bytes (λ row. row) over ++ rows_bytes (encoded_row schema) rows
 
 -- these bytes are no row of the schema
 abbrev pub IsNoRow : List Column → List ℕ → Type 0
@@ -55,9 +55,9 @@ pub record HasListed (schema : List Column) (from : ℕ) (honest : Type 0) (byte
   pub rows : List (List Value)
   pub over : List (List ℕ)
   pub at : ℕ
-  pub are : AreRows schema rows
+  pub are : AreOutRows schema rows
   pub pushed : Appended rows old new
-  pub front : honest → IsFront schema from bytes at over rows
+  pub front : honest → IsOutFront schema from bytes at over rows
   pub ends : honest → IsListingEnd schema at (drop at bytes) (length over ≡ from) result
 
 -- Over an area that has just these rows, those from one of them on are given to the sink, and none is bad.

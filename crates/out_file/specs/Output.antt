@@ -1,32 +1,19 @@
 -- Output files: the rows of a job, in its output area.
-use Rattle.std.specs.Prelude.{◌≡◌, ◌≢◌, ℕ, ◌+◌, ◌%◌, ◌<◌, List, [], ◌∷◌, ◌++◌, length, take, drop}
-use Rattle.page_store.specs.Format.{little}
+use Rattle.std.specs.Prelude.{◌≡◌, ◌≢◌, ℕ, ◌+◌, ◌%◌, ◌<◌, List, length, take, drop}
 use Rattle.page_store.specs.PageOrder.{job_part}
 use Rattle.page_store.specs.Store.{AreaHolds, Contents}
 use Rattle.qsr_value.specs.Encoding.{encoded_row}
 use Rattle.qsr_value.specs.declared.schema.Column.{Column}
 use Rattle.qsr_value.specs.declared.row.Value.{Value}
+use Rattle.row_page.specs.Framed.{rows_bytes}
 use Rattle.out_file.specs.declared.file.OutFile.{OutFile}
-
--- bytes behind their length, which takes two bytes · and so one list of bytes behind the other
-abbrev pub framed : List ℕ → List ℕ
-framed bytes = little 2 (length bytes) ++ bytes
-
-abbrev pub all_framed : List (List ℕ) → List ℕ
-all_framed [] = []
-all_framed (bytes ∷ rest) = framed bytes ++ all_framed rest
-
--- rows, one behind the other, each behind the length of its encoding
-abbrev pub rows_bytes : List Column → List (List Value) → List ℕ
-rows_bytes schema [] = []
-rows_bytes schema (row ∷ rest) = framed (encoded_row schema row) ++ rows_bytes schema rest
 
 -- the output area of a job begins with these bytes · with these rows
 abbrev pub OutHolds : ℕ → List ℕ → Contents → Type 0
 OutHolds job bytes m = AreaHolds (job_part job 4) 0 bytes m
 
-abbrev pub HasRows : ℕ → List Column → List (List Value) → Contents → Type 0
-HasRows job schema rows m = OutHolds job (rows_bytes schema rows) m
+abbrev pub HasOutRows : ℕ → List Column → List (List Value) → Contents → Type 0
+HasOutRows job schema rows m = OutHolds job (rows_bytes (encoded_row schema) rows) m
 
 -- Of a store only the output area of a job is written, and of that only bytes from this one on.
 pub record OutGrows (job at : ℕ) (old new : Contents) : Type 0 where
@@ -36,8 +23,8 @@ pub record OutGrows (job at : ℕ) (old new : Contents) : Type 0 where
   pub below : (i : ℕ) → i < at → new.area (job_part job 4) i ≡ old.area (job_part job 4) i
 
 -- how many bytes the rows of an output file have · those of its bytes that are held back, at their places in a page
-abbrev pub end_of : OutFile → ℕ
-end_of out = out.written + out.held
+abbrev pub out_end : OutFile → ℕ
+out_end out = out.written + out.held
 
 abbrev pub held_bytes : OutFile → List ℕ
 held_bytes out = take out.held (drop (out.written % 4096) out.page)
@@ -46,6 +33,6 @@ held_bytes out = take out.held (drop (out.written % 4096) out.page)
 -- held back.
 pub record HasOut (schema : List Column) (rows : List (List Value)) (out : OutFile) (m : Contents) : Type 0 where
   pub count : out.rows ≡ length rows
-  pub long : length (rows_bytes schema rows) ≡ end_of out
-  pub held : drop out.written (rows_bytes schema rows) ≡ held_bytes out
-  pub stands : OutHolds out.job (take out.written (rows_bytes schema rows)) m
+  pub long : length (rows_bytes (encoded_row schema) rows) ≡ out_end out
+  pub held : drop out.written (rows_bytes (encoded_row schema) rows) ≡ held_bytes out
+  pub stands : OutHolds out.job (take out.written (rows_bytes (encoded_row schema) rows)) m

@@ -6,11 +6,11 @@ use Rattle.out_file.specs.declared.fault.OutFault.TheVariants.{OutFull, BadRow, 
 
 -- Of a fault of a push with so many bytes free: it is told that the output is full where fewer than 1,024 are free, and
 -- else only that the disk failed.
-abbrev pub IsPushFault : ℕ → OutFault → Type 0
-IsPushFault free (OutFull told) = (told ≡ free) × (free < 1024)
-IsPushFault free (BadRow at) = ⊥
-IsPushFault free Failed = 1024 ≤ free
-IsPushFault free Memory = ⊥
+abbrev pub IsOutPushFault : ℕ → OutFault → Type 0
+IsOutPushFault free (OutFull told) = (told ≡ free) × (free < 1024)
+IsOutPushFault free (BadRow at) = ⊥
+IsOutPushFault free Failed = 1024 ≤ free
+IsOutPushFault free Memory = ⊥
 
 -- the count of the disk's faults rose by one where it is told that the disk failed, and else stood
 abbrev pub PushCause : OutFault → ℕ → ℕ → Type 0

@@ -10,8 +10,8 @@ use Rattle.qsr_value.specs.Encoding.{encoded_row}
 use Rattle.qsr_value.specs.Values.{AreTexts, Fits}
 use Rattle.qsr_value.specs.declared.row.Value.{Value}
 use Rattle.qsr_value.specs.declared.schema.Column.{Column}
+use Rattle.row_page.specs.Framed.{framed}
 use Rattle.out_file.specs.Listing.{Appended, IsBadFront, IsNoRow, Kept}
-use Rattle.out_file.specs.Output.{framed}
 use Rattle.out_file.specs.declared.fault.OutFault.{OutFault}
 use Rattle.out_file.specs.declared.fault.OutFault.TheVariants.{OutFull, BadRow, Failed, Memory}
 use Rattle.out_file.specs.declared.window.Window.{Window}
@@ -59,24 +59,24 @@ pub record HasPassed (honest : Type 0) (area : ℕ → ℕ) (at next : ℕ) (old
   pub stands : honest → StandsTo area at next bytes
 
 -- the one or the other, as it was wanted
-abbrev pub HasTurned : List Column → Bool → Type 0 → (ℕ → ℕ) → ℕ → ℕ → (List (List Value) → Type 0) → (List (List Value) → Type 0) → Type 0
-HasTurned schema true honest area at next old new = HasGiven schema honest area at next old new
-HasTurned schema false honest area at next old new = HasPassed honest area at next old new
+abbrev pub HasStepped : List Column → Bool → Type 0 → (ℕ → ℕ) → ℕ → ℕ → (List (List Value) → Type 0) → (List (List Value) → Type 0) → Type 0
+HasStepped schema true honest area at next old new = HasGiven schema honest area at next old new
+HasStepped schema false honest area at next old new = HasPassed honest area at next old new
 
--- Of a fault of a turn at a place: where it tells a place it is this one, and the bytes from there on have a bad row at
+-- Of a fault of a step at a place: where it tells a place it is this one, and the bytes from there on have a bad row at
 -- their front.
-abbrev pub IsTurnFault : List Column → Type 0 → Type 0 → ℕ → List ℕ → OutFault → Type 0
-IsTurnFault schema looked_at honest at rest (OutFull free) = ⊥
-IsTurnFault schema looked_at honest at rest (BadRow place) = (place ≡ at) × (honest → IsBadFront schema rest looked_at)
-IsTurnFault schema looked_at honest at rest Failed = ⊤
-IsTurnFault schema looked_at honest at rest Memory = ⊤
+abbrev pub IsStepFault : List Column → Type 0 → Type 0 → ℕ → List ℕ → OutFault → Type 0
+IsStepFault schema looked_at honest at rest (OutFull free) = ⊥
+IsStepFault schema looked_at honest at rest (BadRow place) = (place ≡ at) × (honest → IsBadFront schema rest looked_at)
+IsStepFault schema looked_at honest at rest Failed = ⊤
+IsStepFault schema looked_at honest at rest Memory = ⊤
 
 -- Of a fault of a read of the row of these bytes, which stand at a place.
-abbrev pub IsReadFault : List Column → Type 0 → ℕ → List ℕ → OutFault → Type 0
-IsReadFault schema honest at bytes (OutFull free) = ⊥
-IsReadFault schema honest at bytes (BadRow place) = (place ≡ at) × (honest → IsNoRow schema bytes)
-IsReadFault schema honest at bytes Failed = ⊤
-IsReadFault schema honest at bytes Memory = ⊤
+abbrev pub IsOutReadFault : List Column → Type 0 → ℕ → List ℕ → OutFault → Type 0
+IsOutReadFault schema honest at bytes (OutFull free) = ⊥
+IsOutReadFault schema honest at bytes (BadRow place) = (place ≡ at) × (honest → IsNoRow schema bytes)
+IsOutReadFault schema honest at bytes Failed = ⊤
+IsOutReadFault schema honest at bytes Memory = ⊤
 
 -- the row of these bytes
 pub record IsRowOf (schema : List Column) (honest : Type 0) (bytes : List ℕ) (row : List Value) : Type 0 where

@@ -8,22 +8,16 @@ ghost use Rattle.qsr_value.specs.Encoding.{encoded_row};
 ghost use Rattle.qsr_value.specs.Values.{AreTexts, Fits};
 
 use crate::OutFault;
-use byteorder::{ByteOrder, LittleEndian};
 use disk_model::Disk;
 use page_store::{Area, Store};
-use qsr_value::{Failed, Row, Schema, encode_row, encodings_are_exact};
+use qsr_value::{Failed, PAGE_BYTES, Row, Schema, laws};
+use row_page::put_row;
 
 /// A row needs so many bytes at most, with its length.
 const LEAST_FREE: u32 = 1024;
 
-/// How many bytes a page has.
-const PAGE: u32 = 4096;
-
-/// Where a page ends in the buffer.
-const PAGE_BYTES: usize = PAGE as usize;
-
-/// How many bytes the length of a row has.
-const LENGTH_BYTES: usize = 2;
+/// How many bytes a page has, as a number of bytes of an area.
+const PAGE: u32 = PAGE_BYTES as u32;
 
 /// A page, and room for a row that goes over its end.
 const BUFFER_BYTES: usize = 5120;
@@ -52,8 +46,9 @@ impl OutFile {
     ghost use Rattle.page_store.specs.Store.{AreaHolds, Contents, IsReady, store_view};
     ghost use Rattle.qsr_value.specs.declared.schema.Column.{Column};
     ghost use Rattle.qsr_value.specs.declared.row.Value.{Value};
-    ghost use Rattle.out_file.specs.Output.{HasOut, HasRows, OutGrows, OutHolds, end_of, framed, held_bytes, rows_bytes};
-    ghost use Rattle.out_file.specs.Pushes.{IsPushFault, PushCause, WritesPage};
+    ghost use Rattle.row_page.specs.Framed.{framed, rows_bytes};
+    ghost use Rattle.out_file.specs.Output.{HasOut, HasOutRows, OutGrows, OutHolds, out_end, held_bytes};
+    ghost use Rattle.out_file.specs.Pushes.{IsOutPushFault, PushCause, WritesPage};
 
     /// The output file of a job, 0 to 7, that has so many rows in its first `end` bytes and room for `bytes`.
     pub fn at(job: u8, rows: u64, end: u32, bytes: u32) -> OutFile
@@ -65,8 +60,8 @@ impl OutFile {
         ensures bytes { result.bytes ≡ bytes }
 
         // Where the area has these rows, so has the file.
-        ensures has { (schema : List Column) → (has : List (List Value)) → (m : Contents) → length has ≡ rows → length (rows_bytes schema has) ≡ end
-            → HasRows job schema has m → HasOut schema has result m }
+        ensures has { (schema : List Column) → (has : List (List Value)) → (m : Contents) → length has ≡ rows → length (rows_bytes (encoded_row schema) has) ≡ end
+            → HasOutRows job schema has m → HasOut schema has result m }
     {
         OutFile {
             job,
@@ -87,14 +82,14 @@ impl OutFile {
 
     /// How many bytes its rows take.
     pub fn end(&self) -> u32
-        ensures { result ≡ end_of self.now }
+        ensures { result ≡ out_end self.now }
     {
         self.written + self.held
     }
 
     /// How many bytes it has room for behind its rows.
     pub fn free(&self) -> u32
-        ensures { result ≡ self.now.bytes - end_of self.now }
+        ensures { result ≡ self.now.bytes - out_end self.now }
     {
         self.bytes - self.written - self.held
     }
@@ -117,8 +112,8 @@ impl OutFile {
         ensures failed { OnErr result ((rows : List (List Value)) → ((store_view store.old).honest → HasOut schema.now rows self.old (store_view store.old).seen)
             → (store_view store.new).honest → HasOut schema.now rows self.new (store_view store.new).seen) }
         ensures rows { OnOk result (self.new.rows ≡ next_count self.old.rows) }
-        ensures room { OnOk result (1024 ≤ self.old.bytes - end_of self.old) }
-        ensures fault { IfErr result (IsPushFault (self.old.bytes - end_of self.old)) }
+        ensures room { OnOk result (1024 ≤ self.old.bytes - out_end self.old) }
+        ensures fault { IfErr result (IsOutPushFault (self.old.bytes - out_end self.old)) }
         ensures kept { MatchResult result (λ _. self.old.written ≤ self.new.written) (λ _. (self.new.rows ≡ self.old.rows) × (self.new.written ≡ self.old.written) × (self.new.held ≡ self.old.held)) }
         ensures setup { (self.new.job ≡ self.old.job) × (self.new.bytes ≡ self.old.bytes) }
         ensures grows { Steps (OutGrows self.old.job self.old.written) (store_view store.old) (store_view store.new) }
@@ -130,13 +125,13 @@ impl OutFile {
             (λ fault. PushCause fault (D.faults_of store.old.disk.now) (D.faults_of store.new.disk.now)) }
         ensures writes { (D.writes_of store.new.disk.now ≡ D.writes_of store.old.disk.now) ⊎ (D.writes_of store.new.disk.now ≡ next_count (D.writes_of store.old.disk.now)) }
         ensures pages { OnOk result (WritesPage self.old.written self.new.written (D.writes_of store.old.disk.now) (D.writes_of store.new.disk.now)) }
-        ensures full { self.old.bytes - end_of self.old < 1024 → D.writes_of store.new.disk.now ≡ D.writes_of store.old.disk.now }
+        ensures full { self.old.bytes - out_end self.old < 1024 → D.writes_of store.new.disk.now ≡ D.writes_of store.old.disk.now }
         ensures reads { D.reads_of store.new.disk.now ≡ D.reads_of store.old.disk.now }
         ensures syncs { D.syncs_of store.new.disk.now ≡ D.syncs_of store.old.disk.now }
     {
         // Behind what is held back the buffer has room for a row, also for one that isn't kept.
         let from = self.behind();
-        let end = OutFile::put_row(&mut self.page, from, row, schema);
+        let end = OutFile::put_short_row(&mut self.page, from, row, schema);
         let free = self.free();
         if free < LEAST_FREE {
             return Err(OutFault::OutFull { free });
@@ -159,7 +154,7 @@ impl OutFile {
         ensures any_moment { LeavesOnly (store_view store.old) (store_view store.new) (After (OutGrows self.old.job self.old.written) (store_view store.old)) }
         ensures seen { (store_view store.old).honest → OutGrows self.old.job self.old.written (store_view store.old).seen (store_view store.new).seen }
         ensures flushed { OnOk result ((schema : List Column) → (rows : List (List Value)) → ((store_view store.old).honest → HasOut schema rows self.old (store_view store.old).seen)
-            → EachImage (store_view store.new) (HasRows self.old.job schema rows)) }
+            → EachImage (store_view store.new) (HasOutRows self.old.job schema rows)) }
         ensures has { OnOk result ((schema : List Column) → (rows : List (List Value)) → ((store_view store.old).honest → HasOut schema rows self.old (store_view store.old).seen)
             → (store_view store.new).honest → HasOut schema rows self.new (store_view store.new).seen) }
 
@@ -167,8 +162,8 @@ impl OutFile {
         ensures failed { OnErr result ((schema : List Column) (rows : List (List Value)) → ((store_view store.old).honest → HasOut schema rows self.old (store_view store.old).seen)
             → (store_view store.new).honest → HasOut schema rows self.new (store_view store.new).seen) }
         ensures synced { OnOk result (IsSynced (store_view store.new)) }
-        ensures written { OnOk result ((self.new.written ≡ end_of self.old) × (self.new.held ≡ 0)) }
-        ensures setup { (self.new.job ≡ self.old.job) × (self.new.rows ≡ self.old.rows) × (self.new.bytes ≡ self.old.bytes) × (end_of self.new ≡ end_of self.old) }
+        ensures written { OnOk result ((self.new.written ≡ out_end self.old) × (self.new.held ≡ 0)) }
+        ensures setup { (self.new.job ≡ self.old.job) × (self.new.rows ≡ self.old.rows) × (self.new.bytes ≡ self.old.bytes) × (out_end self.new ≡ out_end self.old) }
         ensures ready { IsReady store.old → IsReady store.new }
         ensures sizes { store.new.sizes ≡ store.old.sizes }
         ensures same { store.new.disk.ghost_name ≡ store.old.disk.ghost_name }
@@ -205,14 +200,14 @@ impl OutFile {
         requires within { self.old.written + (end - self.old.written % 4096) ≤ self.old.bytes }
         requires room { self.old.bytes ≤ 4096 * store.old.sizes.out }
 
-        // Where these bytes stand in the area and the buffer, they do so behind it.
+        // Where these bytes stand in the area and the buffer, they do so after it.
         ensures held { OnOk result ((bytes : List ℕ) → drop self.old.written bytes ≡ take (end - self.old.written % 4096) (drop (self.old.written % 4096) self.old.page)
             → drop self.new.written bytes ≡ held_bytes self.new) }
         ensures stands { OnOk result ((bytes : List ℕ) → self.old.written ≤ length bytes
             → drop self.old.written bytes ≡ take (end - self.old.written % 4096) (drop (self.old.written % 4096) self.old.page)
             → ((store_view store.old).honest → OutHolds self.old.job (take self.old.written bytes) (store_view store.old).seen)
             → (store_view store.new).honest → OutHolds self.old.job (take self.new.written bytes) (store_view store.new).seen) }
-        ensures end { OnOk result (end_of self.new ≡ self.old.written + (end - self.old.written % 4096)) }
+        ensures end { OnOk result (out_end self.new ≡ self.old.written + (end - self.old.written % 4096)) }
         ensures kept { OnErr result ((self.new.written ≡ self.old.written) × (self.new.held ≡ self.old.held) × (self.new.page ≡ self.old.page)) }
         ensures setup { (self.new.job ≡ self.old.job) × (self.new.rows ≡ self.old.rows) × (self.new.bytes ≡ self.old.bytes) }
         ensures grows { Steps (OutGrows self.old.job self.old.written) (store_view store.old) (store_view store.new) }
@@ -230,12 +225,12 @@ impl OutFile {
             return Ok(());
         }
         self.write_up_to(store, PAGE_BYTES)?;
-        self.turn(end);
+        self.next_page(end);
         Ok(())
     }
 
     /// Goes on to the next page, with what stands in the buffer behind this one, in front of this place.
-    fn turn(&mut self, end: usize)
+    fn next_page(&mut self, end: usize)
         requires past { 4096 ≤ end }
         requires buffer { end ≤ 5120 }
         requires within { self.old.written + (end - self.old.written % 4096) ≤ self.old.bytes }
@@ -252,7 +247,7 @@ impl OutFile {
     /// Writes what is held back, where that is something.
     fn write_held<D: Disk>(&self, store: &mut Store<'_, D>) -> Result<(), Failed>
         requires room { self.now.bytes ≤ 4096 * store.old.sizes.out }
-        ensures stands { OnOk result ((bytes : List ℕ) → length bytes ≡ end_of self.now → drop self.now.written bytes ≡ held_bytes self.now
+        ensures stands { OnOk result ((bytes : List ℕ) → length bytes ≡ out_end self.now → drop self.now.written bytes ≡ held_bytes self.now
             → ((store_view store.old).honest → OutHolds self.now.job (take self.now.written bytes) (store_view store.old).seen)
             → (store_view store.new).honest → OutHolds self.now.job bytes (store_view store.new).seen) }
         ensures grows { Steps (OutGrows self.now.job self.now.written) (store_view store.old) (store_view store.new) }
@@ -295,8 +290,8 @@ impl OutFile {
         )
     }
 
-    /// Puts a row of at most 1,000 bytes into a buffer from a place on, behind its length, and answers where it ends.
-    fn put_row(buffer: &mut [u8], at: usize, row: &Row, schema: &Schema) -> usize
+    /// Puts a row of at most 1,000 bytes into a buffer that has room for it from this place on, and answers where it ends.
+    fn put_short_row(buffer: &mut [u8], at: usize, row: &Row, schema: &Schema) -> usize
         requires fits { Fits schema.now row.now }
         requires width { width_of schema.now ≤ 1000 }
         requires room { at + 1002 ≤ length buffer.old }
@@ -305,12 +300,11 @@ impl OutFile {
         ensures bytes { buffer.new ≡ take at buffer.old ++ (framed (encoded_row schema.now row.now) ++ drop result buffer.old) }
         ensures texts { AreTexts row.now }
     {
-        encodings_are_exact();
-        let row_at = at + LENGTH_BYTES;
-        let Ok(end) = encode_row(row, schema, buffer, row_at) else {
+        // For the proof: how many bytes a row has at most, so that it fits.
+        laws::encodings_are_exact();
+        let Ok(end) = put_row(buffer, at, row, schema) else {
             return at;
         };
-        LittleEndian::write_u16(&mut buffer[at..], (end - row_at) as u16);
         end
     }
 }

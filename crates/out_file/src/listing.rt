@@ -11,8 +11,9 @@ ghost use Rattle.job_store.specs.JobHead.{IsHead};
 ghost use Rattle.qsr_value.specs.Causes.{CountsFault};
 ghost use Rattle.qsr_value.specs.Encoding.{encoded_row};
 ghost use Rattle.qsr_value.specs.declared.row.Value.{Value};
-ghost use Rattle.out_file.specs.Listing.{AreRows, HasListed, Kept, ListsFrom};
-ghost use Rattle.out_file.specs.Output.{HasRows, rows_bytes};
+ghost use Rattle.out_file.specs.Listing.{AreOutRows, HasListed, Kept, ListsFrom};
+ghost use Rattle.row_page.specs.Framed.{rows_bytes};
+ghost use Rattle.out_file.specs.Output.{HasOutRows};
 ghost use Rattle.out_file.specs.Pushes.{ListingCause, PushCause};
 
 use crate::OutFault;
@@ -44,7 +45,7 @@ struct Listing {
 impl Listing {
     ghost use Rattle.std.specs.Prelude.{Bool, true};
     ghost use Rattle.qsr_value.specs.declared.schema.Column.{Column};
-    ghost use Rattle.out_file.specs.Reading.{HasGiven, HasPage, HasTurned, IsReadFault, IsRowOf, IsTurnFault, OnlyRead, out_area};
+    ghost use Rattle.out_file.specs.Reading.{HasGiven, HasPage, HasStepped, IsOutReadFault, IsRowOf, IsStepFault, OnlyRead, out_area};
 
     /// The rows of a job, 0 to 7, that end before this byte, with none of them given out.
     fn new(job: u8, end: u32) -> Listing
@@ -70,7 +71,7 @@ impl Listing {
         ensures bytes { IfOk result (λ next. (m : Contents) → (store_view store.old).seen ≡ m → (store_view store.old).honest → HasPage self.old.window m
             → HasPage self.new.window m × (bytes_at (out_area self.old.window.job m) self.old.at 2 ≡ little 2 (next - self.old.at - 2))) }
         ensures fault { IfErr result (λ fault. (schema : List Column) → (wanted : Bool) → (m : Contents) → (store_view store.old).seen ≡ m → ((store_view store.old).honest → HasPage self.old.window m)
-            → IsTurnFault schema (wanted ≡ true) ((store_view store.old).honest) self.old.at (bytes_at (out_area self.old.window.job m) self.old.at (self.old.end - self.old.at)) fault) }
+            → IsStepFault schema (wanted ≡ true) ((store_view store.old).honest) self.old.at (bytes_at (out_area self.old.window.job m) self.old.at (self.old.end - self.old.at)) fault) }
         ensures behind { 4096 * self.new.window.next ≤ self.old.at + 2 + 4095 }
         ensures most { 4096 * self.new.window.next ≤ self.old.end + 4095 }
         ensures setup { (self.new.window.job ≡ self.old.window.job) × (self.new.end ≡ self.old.end) × (self.new.at ≡ self.old.at) }
@@ -113,7 +114,7 @@ impl Listing {
             → IsRowOf schema.now ((store_view store.old).honest) (bytes_at (out_area self.old.window.job m) (self.old.at + 2) (end - self.old.at - 2)) row) }
         ensures page { OnOk result ((m : Contents) → (store_view store.old).seen ≡ m → (store_view store.old).honest → HasPage self.old.window m → HasPage self.new.window m) }
         ensures fault { IfErr result (λ fault. (m : Contents) → (store_view store.old).seen ≡ m → ((store_view store.old).honest → HasPage self.old.window m)
-            → IsReadFault schema.now ((store_view store.old).honest) self.old.at (bytes_at (out_area self.old.window.job m) (self.old.at + 2) (end - self.old.at - 2)) fault) }
+            → IsOutReadFault schema.now ((store_view store.old).honest) self.old.at (bytes_at (out_area self.old.window.job m) (self.old.at + 2) (end - self.old.at - 2)) fault) }
         ensures behind { 4096 * self.new.window.next ≤ end + 4095 }
         ensures setup { (self.new.window.job ≡ self.old.window.job) × (self.new.end ≡ self.old.end) × (self.new.at ≡ self.old.at) }
         ensures read { OnlyRead store.old store.new }
@@ -155,7 +156,7 @@ impl Listing {
             → HasGiven schema.now ((store_view store.old).honest) (out_area self.old.window.job m) self.old.at self.new.at (R.pushed out.old) (R.pushed out.new)) }
         ensures page { OnOk result ((m : Contents) → (store_view store.old).seen ≡ m → (store_view store.old).honest → HasPage self.old.window m → HasPage self.new.window m) }
         ensures fault { IfErr result (λ fault. (m : Contents) → (store_view store.old).seen ≡ m → ((store_view store.old).honest → HasPage self.old.window m)
-            → IsReadFault schema.now ((store_view store.old).honest) self.old.at (bytes_at (out_area self.old.window.job m) (self.old.at + 2) (end - self.old.at - 2)) fault) }
+            → IsOutReadFault schema.now ((store_view store.old).honest) self.old.at (bytes_at (out_area self.old.window.job m) (self.old.at + 2) (end - self.old.at - 2)) fault) }
         ensures kept { OnErr result (Kept (R.pushed out.old) (R.pushed out.new)) }
         ensures at { OnOk result (self.new.at ≡ end) }
         ensures behind { 4096 * self.new.window.next ≤ end + 4095 }
@@ -177,7 +178,7 @@ impl Listing {
     }
 
     /// Gives the row that comes next to a sink where it is wanted, and else passes over it by its length.
-    fn turn<D: Disk, R: RowSink>(
+    fn step<D: Disk, R: RowSink>(
         &mut self,
         alloc: Global,
         store: &mut Store<'_, D>,
@@ -191,11 +192,11 @@ impl Listing {
         requires more { self.old.at < self.old.end }
         requires buffer { min self.old.end 65535 ≤ length buffer.old }
         requires sink { R.unbounded out.old }
-        ensures turned { OnOk result ((m : Contents) → (store_view store.old).seen ≡ m → ((store_view store.old).honest → HasPage self.old.window m)
-            → HasTurned schema.now wanted ((store_view store.old).honest) (out_area self.old.window.job m) self.old.at self.new.at (R.pushed out.old) (R.pushed out.new)) }
+        ensures stepped { OnOk result ((m : Contents) → (store_view store.old).seen ≡ m → ((store_view store.old).honest → HasPage self.old.window m)
+            → HasStepped schema.now wanted ((store_view store.old).honest) (out_area self.old.window.job m) self.old.at self.new.at (R.pushed out.old) (R.pushed out.new)) }
         ensures page { OnOk result ((m : Contents) → (store_view store.old).seen ≡ m → (store_view store.old).honest → HasPage self.old.window m → HasPage self.new.window m) }
         ensures fault { IfErr result (λ fault. (m : Contents) → (store_view store.old).seen ≡ m → ((store_view store.old).honest → HasPage self.old.window m)
-            → IsTurnFault schema.now (wanted ≡ true) ((store_view store.old).honest) self.old.at (bytes_at (out_area self.old.window.job m) self.old.at (self.old.end - self.old.at)) fault) }
+            → IsStepFault schema.now (wanted ≡ true) ((store_view store.old).honest) self.old.at (bytes_at (out_area self.old.window.job m) self.old.at (self.old.end - self.old.at)) fault) }
         ensures kept { OnErr result (Kept (R.pushed out.old) (R.pushed out.new)) }
         ensures on { OnOk result (self.old.at + 2 ≤ self.new.at) }
         ensures behind { OnOk result (4096 * self.new.window.next ≤ self.new.at + 4095) }
@@ -252,8 +253,8 @@ pub fn rows_from<D: Disk, R: RowSink>(
         result (R.pushed out.old) (R.pushed out.new) }
 
     // Where the area has just these rows, of which none has more than 65,535 bytes, they are given and none is refused.
-    ensures rows { (rows : List (List Value)) → AreRows schema.now rows → All (λ row. length (encoded_row schema.now row) < 65536) rows → length (rows_bytes schema.now rows) ≡ head.now.end
-        → ((store_view store.old).honest → HasRows job schema.now rows (store_view store.old).seen)
+    ensures rows { (rows : List (List Value)) → AreOutRows schema.now rows → All (λ row. length (encoded_row schema.now row) < 65536) rows → length (rows_bytes (encoded_row schema.now) rows) ≡ head.now.end
+        → ((store_view store.old).honest → HasOutRows job schema.now rows (store_view store.old).seen)
         → ListsFrom from ((store_view store.old).honest) rows result (R.pushed out.old) (R.pushed out.new) }
     ensures stays { Stays (store_view store.old) (store_view store.new) }
     ensures ready { IsReady store.old → IsReady store.new }
@@ -277,7 +278,7 @@ pub fn rows_from<D: Disk, R: RowSink>(
     let mut listing = Listing::new(job, head.end);
     let mut number = 0;
     while listing.at < head.end {
-        listing.turn(alloc, store, schema, from <= number, buffer, out)?;
+        listing.step(alloc, store, schema, from <= number, buffer, out)?;
         number += 1;
     }
     Ok(())

@@ -8,10 +8,7 @@ ghost use Rattle.qsr_value.specs.Causes.{CountsFault};
 
 use disk_model::Disk;
 use page_store::{Area, Store};
-use qsr_value::Failed;
-
-/// How many bytes a page has.
-const PAGE_BYTES: usize = 4096;
+use qsr_value::{Failed, PAGE_BYTES};
 
 /// The page of the output area of a job that was asked for last.
 #[derive(Drop)]
@@ -40,7 +37,7 @@ impl Window {
     }
 
     /// Makes it have this page, by one device read where it hasn't.
-    fn turn_to<D: Disk>(&mut self, store: &mut Store<'_, D>, page: u32) -> Result<(), Failed>
+    fn go_to<D: Disk>(&mut self, store: &mut Store<'_, D>, page: u32) -> Result<(), Failed>
         requires page { page < store.old.sizes.out }
         requires behind { self.old.next ≤ page + 1 }
         ensures bytes { OnOk result ((m : Contents) → (store_view store.old).seen ≡ m → (store_view store.old).honest → HasPage self.old m
@@ -90,7 +87,7 @@ impl Window {
         let mut done = 0;
         while done < out.len() {
             let place = at as usize + done;
-            self.turn_to(store, (place / PAGE_BYTES) as u32)?;
+            self.go_to(store, (place / PAGE_BYTES) as u32)?;
             done += self.copy_to(place % PAGE_BYTES, &mut out[done..]);
         }
         Ok(())

@@ -1,4 +1,5 @@
 pub mod AreaLaws
+pub mod AreaPieces
 pub mod Commits
 pub mod Counts
 pub mod Heads

@@ -5,7 +5,7 @@ use Rattle.std.proofs.lemmas.List.{get_or_append_left, get_or-append_right}
 use Rattle.std.specs.Option.{IsSome}
 use Rattle.disk_model.specs.Image.{Image, Holds}
 use Rattle.qsr_layout.proofs.Numbers.{little_from-holds}
-use Rattle.qsr_layout.specs.Page.{Holds as PageHolds}
+use Rattle.qsr_layout.specs.Page.{PageHolds}
 use Rattle.qsr_layout.specs.StoreHead.{store_head_field}
 use Rattle.qsr_layout.specs.declared.records.StoreHeadField.TheVariants.{Gate, Text, Version}
 use Rattle.page_store.specs.declared.pages.Sizes.{Sizes}

@@ -1,10 +1,10 @@
 -- The bytes of a slot, read from an image.
-use Rattle.std.proofs.Common.{◌≡◌, ℕ, zero, suc, ◌+◌, ◌^◌, ◌<◌, ◌≤◌, List, [], ◌∷◌, ◌++◌, take, drop, append-nil, Option, Some, None, option_map, is_some, length, slice_index, ◌-◌, subst, inl, inr, length-append, refl, sym, ap, ◌∙◌, arith}
-use Rattle.std.proofs.lemmas.Bool.{cases_lt}
+use Rattle.std.proofs.Common.{◌≡◌, ℕ, zero, suc, ◌+◌, ◌^◌, ◌<◌, ◌≤◌, List, [], ◌∷◌, ◌++◌, take, drop, append-nil, Option, Some, None, option_map, is_some, length, slice_index, ◌-◌, subst, length-append, refl, sym, ap, ◌∙◌, arith}
 use Rattle.std.proofs.lemmas.List.{get_or_append_left, get_or-append_right, length-take-le}
 use Rattle.std.proofs.lemmas.Grind.{common_steps}
 use Rattle.qsr_layout.proofs.Numbers.{little_from-holds}
 use Rattle.disk_model.specs.Image.{Image, Holds, SameOutside}
+use Rattle.disk_model.proofs.Pieces.{holds_both}
 use Rattle.page_store.specs.Twin.{bytes_at, head_at, number_at, number_in}
 use Rattle.page_store.specs.declared.slots.SlotHead.{SlotHead}
 use Rattle.page_store.specs.Format.{behind_gate, little}
@@ -66,15 +66,6 @@ head_read c slot page bytes h long holds same gate sequence len =
     let third : number_at c (slot + 2) ≡ h.len = ap (number_in (record { at = 0; bytes = 4 })) part ∙ sym len in
     rw (first, second, third) refl
 
--- bytes, and others behind them
-pub holds_append : (c : Image) (at : ℕ) (xs ys : List ℕ) → Holds c at xs → Holds c (at + length xs) ys → Holds c at (xs ++ ys)
-holds_append c at xs ys first second i inside = elim (cases_lt i (length xs)) [
-  | inl low ↦ first i low ∙ sym (get_or_append_left xs ys 0 i low)
-  | inr high ↦
-      let place : at + i ≡ at + length xs + (i - length xs) = omega arith in
-      ap c place ∙ second (i - length xs) (omega (arith, inside, length-append xs ys, high)) ∙ sym (get_or-append_right xs ys (length xs) i 0 refl high)
-]
-
 pub length-behind_gate : (sequence len : ℕ) (front : List ℕ) → length (behind_gate sequence len front) ≡ 7 + length front
 unfolding behind_gate
 length-behind_gate sequence len front = omega arith
@@ -89,7 +80,7 @@ pub behind_holds : (c : Image) (slot at sequence len : ℕ) (front rest : List �
 behind_holds c slot at sequence len front rest place first second =
     let next : at ≡ slot + 1 + length (behind_gate sequence len front) = omega (arith, place, length-behind_gate sequence len front) in
     subst (Holds c (slot + 1)) (behind_more sequence len front rest)
-    (holds_append c (slot + 1) (behind_gate sequence len front) rest first (subst (λ (k : ℕ). Holds c k rest) next second))
+    (holds_both c (slot + 1) (behind_gate sequence len front) rest first (subst (λ (k : ℕ). Holds c k rest) next second))
 
 -- bytes that a write further on leaves
 pub holds_before : (c d : Image) (at n to : ℕ) (bytes : List ℕ) → at + length bytes ≤ to → SameOutside to n c d → Holds c at bytes → Holds d at bytes

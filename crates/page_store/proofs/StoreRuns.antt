@@ -4,7 +4,7 @@ use Rattle.std.proofs.lemmas.Bool.Decides.{eqb_tells}
 use Rattle.disk_model.specs.Image.{Image, SameOutside}
 use Rattle.disk_model.specs.View.{View, After, EachImage, LeavesOnly, Stays, Steps}
 use Rattle.disk_model.proofs.Runs.{and_then, weaker_run}
-use Rattle.qsr_value.specs.Causes.{count_behind, next_count}
+use Rattle.qsr_value.specs.Causes.{count_after, next_count}
 use Rattle.page_store.specs.declared.pages.Sizes.{Sizes}
 use Rattle.page_store.specs.declared.records.TheConstants.{OPEN}
 use Rattle.page_store.specs.Format.{IsNoStore, IsOldNoneOrNew, IsWritten, SameBelow, WritesByGate}
@@ -34,12 +34,12 @@ open_run {b = b} sizes run written opens = and_then run opens (λ i after. inr (
 
 -- how many writes were made, by the gate that was read
 pub all_writes : (a : View Image) (gate old mid closed new : ℕ) → (a.honest → a.seen 0 ≡ gate) → mid ≡ old
-    → closed ≡ (if gate == OPEN then next_count mid else mid) → new ≡ count_behind 20 closed → WritesByGate 20 a old new
+    → closed ≡ (if gate == OPEN then next_count mid else mid) → new ≡ count_after 20 closed → WritesByGate 20 a old new
 all_writes a gate old mid closed new stood same shut more = elim (eqb_tells gate OPEN) [
   | inl is ↦
       let one = shut ∙ ap (λ (b : Bool). if b then next_count mid else mid) is.0 ∙ ap next_count same in
-      inr (more ∙ ap (count_behind 20) one, λ honest. stood honest ∙ is.1)
+      inr (more ∙ ap (count_after 20) one, λ honest. stood honest ∙ is.1)
   | inr other ↦
       let none = shut ∙ ap (λ (b : Bool). if b then next_count mid else mid) other.0 ∙ same in
-      inl (more ∙ ap (count_behind 20) none, λ honest is_open. other.1 (sym (stood honest) ∙ is_open))
+      inl (more ∙ ap (count_after 20) none, λ honest is_open. other.1 (sym (stood honest) ∙ is_open))
 ]

@@ -3,7 +3,7 @@ use Rattle.std.specs.Prelude.{◌≡◌, ◌≢◌, ◌⊎◌, ℕ, ◌+◌, ◌
 use Rattle.std.specs.Int.{bytes_low_first}
 use Rattle.disk_model.specs.Image.{Image, Holds}
 use Rattle.disk_model.specs.View.{View}
-use Rattle.qsr_value.specs.Causes.{RoseByOne, count_behind}
+use Rattle.qsr_value.specs.Causes.{RoseByOne, count_after}
 use Rattle.page_store.specs.PageOrder.{start_of, parts, job_part}
 use Rattle.page_store.specs.declared.pages.Sizes.{Sizes}
 use Rattle.page_store.specs.declared.fault.StoreFault.{StoreFault}
@@ -80,8 +80,8 @@ pub record SameBelow (n : ℕ) (old new : Image) : Type 0 where
 -- The writes of a call that writes so many times, and once more where the gate of a store is open before it.
 abbrev pub WritesByGate : ℕ → View Image → ℕ → ℕ → Type 0
 WritesByGate calls before old new =
-    ((new ≡ count_behind calls old) × (before.honest → before.seen 0 ≢ OPEN))
-    ⊎ ((new ≡ count_behind (calls + 1) old) × (before.honest → before.seen 0 ≡ OPEN))
+    ((new ≡ count_after calls old) × (before.honest → before.seen 0 ≢ OPEN))
+    ⊎ ((new ≡ count_after (calls + 1) old) × (before.honest → before.seen 0 ≡ OPEN))
 
 -- Of a fault of `format`, at a disk that needs so many bytes and has so many: it is told that the disk is too small
 -- where it is, and else only that the disk failed.

@@ -1,7 +1,7 @@
 -- Which images are stores.
 use Rattle.std.specs.Prelude.{◌≡◌, ◌⊎◌, ℕ, ◌+◌, ◌*◌, ◌<◌, ◌≤◌, sum, Some, None, MatchOption, ⊤}
 use Rattle.std.specs.Option.{IsSome}
-use Rattle.qsr_value.specs.Causes.{count_behind, next_count}
+use Rattle.qsr_value.specs.Causes.{count_after, next_count}
 use Rattle.disk_model.specs.Image.{Image}
 use Rattle.disk_model.specs.View.{View}
 use Rattle.page_store.specs.declared.fault.StoreFault.{StoreFault}
@@ -66,7 +66,7 @@ pub record ReadsTwins (page old new : ℕ) : Type 0 where
   pub twin : ℕ
   pub some : twin < 9
   pub first : page ≡ twin_page sizes twin
-  pub reads : new ≡ count_behind (2 * (twin + 1)) old
+  pub reads : new ≡ count_after (2 * (twin + 1)) old
 
 abbrev pub ReadsNoStore : StoreFault → ℕ → ℕ → Type 0
 ReadsNoStore (TooSmall need have) old new = ⊥

@@ -1,6 +1,6 @@
 -- A store as the layers above see it: what its head tells, the body of each twin, and the bytes of each area.
 use Rattle.std.specs.Prelude.{◌≡◌, ◌≢◌, ◌⊎◌, ℕ, zero, suc, ◌+◌, ◌-◌, ◌*◌, ◌%◌, ◌<◌, ◌≤◌, ◌==◌, Bool, ◌&&◌, ◌||◌, nat_lt, nat_le, if◌then◌else◌, List, length, slice_index, Option, Some, None, ⊤}
-use Rattle.qsr_value.specs.Causes.{count_behind}
+use Rattle.qsr_value.specs.Causes.{count_after}
 use Rattle.disk_model.specs.Image.{Image}
 use Rattle.disk_model.specs.View.{View}
 use Rattle.disk_model.specs.declared.disk.Disk.{Ghosts}
@@ -99,7 +99,7 @@ IsNoBody first honest body Failed = ⊤
 -- The reads of a body that isn't there: of the heads of the two slots.
 abbrev pub ReadsNoBody : StoreFault → ℕ → ℕ → Type 0
 ReadsNoBody (TooSmall need have) old new = ⊥
-ReadsNoBody (NotStore page) old new = new ≡ count_behind 2 old
+ReadsNoBody (NotStore page) old new = new ≡ count_after 2 old
 ReadsNoBody Failed old new = ⊤
 
 -- what could be left before, or is that after a step
@@ -123,7 +123,7 @@ slot_pages len = if nat_le len 4088 then 1 else 2
 
 -- The device writes of a commit of so many bytes: its pages and the gate that is opened, and one more where a gate is closed.
 abbrev pub HasCommitWrites : ℕ → ℕ → ℕ → Type 0
-HasCommitWrites len old new = (new ≡ count_behind (slot_pages len + 1) old) ⊎ (new ≡ count_behind (slot_pages len + 2) old)
+HasCommitWrites len old new = (new ≡ count_after (slot_pages len + 1) old) ⊎ (new ≡ count_after (slot_pages len + 2) old)
 
 -- the reads of a body, a page at most each
 abbrev pub body_reads : ℕ → ℕ

@@ -3,7 +3,7 @@
 ghost use Rattle.std.specs.Prelude.{◌≡◌, ◌⊎◌, ◌+◌, ◌*◌, ◌<◌, ◌≤◌, ℕ, length, sum, IfOk, IfErr, OnOk, MatchResult};
 ghost use Rattle.disk_model.specs.Image.{Holds};
 ghost use Rattle.disk_model.specs.View.{EachImage, IsSynced, LeavesOnly, Stays, Steps};
-ghost use Rattle.qsr_value.specs.Causes.{CountsFault, count_behind, next_count};
+ghost use Rattle.qsr_value.specs.Causes.{CountsFault, count_after, next_count};
 ghost use Rattle.page_store.specs.Format.{CausedBy, IsFormatFault, IsNew, IsNewJob, IsNewTwin, IsOldNoneOrNew, IsWritten, SameBelow, WritesByGate, head_rest};
 ghost use Rattle.page_store.specs.Opening.{IsEmptyStore};
 ghost use Rattle.page_store.specs.PageOrder.{AreSizes, parts};
@@ -49,7 +49,7 @@ pub fn format<D: Disk>(disk: &mut D, sizes: Sizes) -> Result<u32, StoreFault>
     // Where it answers it has made one read, 20 writes, or 21 where a store's gate was open, and four syncs.
     ensures reads { IfOk result (λ pages. D.reads_of disk.new ≡ next_count (D.reads_of disk.old)) }
     ensures writes { IfOk result (λ pages. WritesByGate 20 (D.view disk.old) (D.writes_of disk.old) (D.writes_of disk.new)) }
-    ensures syncs { IfOk result (λ pages. D.syncs_of disk.new ≡ count_behind 4 (D.syncs_of disk.old)) }
+    ensures syncs { IfOk result (λ pages. D.syncs_of disk.new ≡ count_after 4 (D.syncs_of disk.old)) }
     ensures size { D.size_of disk.new ≡ D.size_of disk.old }
 {
     let pages = layout_pages(&sizes);
@@ -73,7 +73,7 @@ fn write_store<D: Disk>(disk: &mut D, sizes: &Sizes) -> Result<(), Failed>
     ensures faults { CountsFault result (D.faults_of disk.old) (D.faults_of disk.new) }
     ensures reads { OnOk result (D.reads_of disk.new ≡ next_count (D.reads_of disk.old)) }
     ensures writes { OnOk result (WritesByGate 20 (D.view disk.old) (D.writes_of disk.old) (D.writes_of disk.new)) }
-    ensures syncs { OnOk result (D.syncs_of disk.new ≡ count_behind 4 (D.syncs_of disk.old)) }
+    ensures syncs { OnOk result (D.syncs_of disk.new ≡ count_after 4 (D.syncs_of disk.old)) }
     ensures size { D.size_of disk.new ≡ D.size_of disk.old }
 {
     let gate = read_gate(disk)?;
@@ -109,7 +109,7 @@ fn write_parts<D: Disk>(disk: &mut D, sizes: &Sizes) -> Result<(), Failed>
     ensures steps { Steps (SameBelow 1) (D.view disk.old) (D.view disk.new) }
     ensures faults { CountsFault result (D.faults_of disk.old) (D.faults_of disk.new) }
     ensures reads { D.reads_of disk.new ≡ D.reads_of disk.old }
-    ensures writes { OnOk result (D.writes_of disk.new ≡ count_behind 19 (D.writes_of disk.old)) }
+    ensures writes { OnOk result (D.writes_of disk.new ≡ count_after 19 (D.writes_of disk.old)) }
     ensures syncs { D.syncs_of disk.new ≡ D.syncs_of disk.old }
     ensures size { D.size_of disk.new ≡ D.size_of disk.old }
 {
@@ -143,7 +143,7 @@ fn write_twin<D: Disk>(disk: &mut D, first: u32, second: u32, body: &[u8]) -> Re
     ensures steps { Steps (SameBelow (4096 * first)) (D.view disk.old) (D.view disk.new) }
     ensures faults { CountsFault result (D.faults_of disk.old) (D.faults_of disk.new) }
     ensures reads { D.reads_of disk.new ≡ D.reads_of disk.old }
-    ensures writes { OnOk result (D.writes_of disk.new ≡ count_behind 2 (D.writes_of disk.old)) }
+    ensures writes { OnOk result (D.writes_of disk.new ≡ count_after 2 (D.writes_of disk.old)) }
     ensures syncs { D.syncs_of disk.new ≡ D.syncs_of disk.old }
     ensures size { D.size_of disk.new ≡ D.size_of disk.old }
 {
@@ -160,7 +160,7 @@ fn write_jobs<D: Disk>(disk: &mut D, sizes: &Sizes) -> Result<(), Failed>
     ensures steps { Steps (SameBelow (4096 * 5)) (D.view disk.old) (D.view disk.new) }
     ensures faults { CountsFault result (D.faults_of disk.old) (D.faults_of disk.new) }
     ensures reads { D.reads_of disk.new ≡ D.reads_of disk.old }
-    ensures writes { OnOk result (D.writes_of disk.new ≡ count_behind 16 (D.writes_of disk.old)) }
+    ensures writes { OnOk result (D.writes_of disk.new ≡ count_after 16 (D.writes_of disk.old)) }
     ensures syncs { D.syncs_of disk.new ≡ D.syncs_of disk.old }
     ensures size { D.size_of disk.new ≡ D.size_of disk.old }
 {

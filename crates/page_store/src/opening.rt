@@ -2,7 +2,7 @@
 
 ghost use Rattle.std.specs.Prelude.{◌≡◌, ◌⊎◌, ◌+◌, ◌*◌, ◌<◌, ◌≤◌, length, sum, IfOk, IfErr, OnOk, MatchOption, MatchResult, Some, ⊤};
 ghost use Rattle.disk_model.specs.View.{Stays, IsSynced};
-ghost use Rattle.qsr_value.specs.Causes.{CountsFault, count_behind, next_count};
+ghost use Rattle.qsr_value.specs.Causes.{CountsFault, count_after, next_count};
 ghost use Rattle.page_store.specs.Opening.{AreWhole, HasNoHead, IsDamagedTwin, IsOpeningFault, IsStore, ReadsNoStore, ReadsTwins};
 ghost use Rattle.page_store.specs.Format.{CausedBy};
 ghost use Rattle.page_store.specs.Head.{head_in, store_head};
@@ -14,8 +14,7 @@ use crate::records::{PAGE, STORE_HEAD_BYTES, head_in};
 use crate::twins::has_current;
 use crate::{Sizes, StoreFault, Twin, layout_pages};
 use disk_model::Disk;
-use qsr_layout::PAGE_BYTES;
-use qsr_value::Failed;
+use qsr_value::{Failed, PAGE_BYTES};
 
 /// Reads the head of a store, and answers its sizes where there is one and its layout fits on the disk.
 pub(crate) fn read_store_head<D: Disk>(disk: &mut D) -> Result<Option<Sizes>, Failed>
@@ -69,7 +68,7 @@ fn first_damaged<D: Disk>(disk: &mut D, sizes: &Sizes) -> Result<Option<u32>, Fa
         (λ page. IsDamagedTwin sizes.now page (contents_of sizes.now (D.view disk.old).seen))) }
     ensures stays { Stays (D.view disk.old) (D.view disk.new) }
     ensures faults { CountsFault result (D.faults_of disk.old) (D.faults_of disk.new) }
-    ensures reads { IfOk result (λ found. MatchOption found (D.reads_of disk.new ≡ count_behind 18 (D.reads_of disk.old)) (λ page. ReadsTwins page (D.reads_of disk.old) (D.reads_of disk.new))) }
+    ensures reads { IfOk result (λ found. MatchOption found (D.reads_of disk.new ≡ count_after 18 (D.reads_of disk.old)) (λ page. ReadsTwins page (D.reads_of disk.old) (D.reads_of disk.new))) }
     ensures writes { D.writes_of disk.new ≡ D.writes_of disk.old }
     ensures syncs { D.syncs_of disk.new ≡ D.syncs_of disk.old }
     ensures size { D.size_of disk.new ≡ D.size_of disk.old }
@@ -92,7 +91,7 @@ fn find_store<D: Disk>(disk: &mut D) -> Result<Sizes, StoreFault>
     ensures stays { Stays (D.view disk.old) (D.view disk.new) }
     ensures faults { MatchResult result (λ sizes. D.faults_of disk.new ≡ D.faults_of disk.old)
         (λ fault. CausedBy fault (D.faults_of disk.old) (D.faults_of disk.new)) }
-    ensures reads { OnOk result (D.reads_of disk.new ≡ count_behind 19 (D.reads_of disk.old)) }
+    ensures reads { OnOk result (D.reads_of disk.new ≡ count_after 19 (D.reads_of disk.old)) }
     ensures none_reads { IfErr result (λ fault. ReadsNoStore fault (D.reads_of disk.old) (D.reads_of disk.new)) }
     ensures writes { D.writes_of disk.new ≡ D.writes_of disk.old }
     ensures syncs { D.syncs_of disk.new ≡ D.syncs_of disk.old }
@@ -120,7 +119,7 @@ pub(crate) fn start<D: Disk>(disk: &mut D) -> Result<Sizes, StoreFault>
     ensures stays { Stays (D.view disk.old) (D.view disk.new) }
     ensures faults { MatchResult result (λ sizes. D.faults_of disk.new ≡ D.faults_of disk.old)
         (λ fault. CausedBy fault (D.faults_of disk.old) (D.faults_of disk.new)) }
-    ensures reads { OnOk result (D.reads_of disk.new ≡ count_behind 19 (D.reads_of disk.old)) }
+    ensures reads { OnOk result (D.reads_of disk.new ≡ count_after 19 (D.reads_of disk.old)) }
     ensures none_reads { IfErr result (λ fault. ReadsNoStore fault (D.reads_of disk.old) (D.reads_of disk.new)) }
     ensures writes { D.writes_of disk.new ≡ D.writes_of disk.old }
     ensures syncs { D.syncs_of disk.new ≡ next_count (D.syncs_of disk.old) }

@@ -5,9 +5,13 @@ ghost use Rattle.page_store.specs.PageOrder.{AreSizes, IsArea, IsOfOnePart, area
 ghost use Rattle.page_store.specs.Store.{IsTwin, twin_at, twin_number, twin_span};
 
 use crate::records::PAGE;
+use qsr_value::{MAX_INDEXES, MAX_TABLES};
 
-/// How many tables a store has, and how many indexes.
-const TABLES: u32 = 16;
+/// How many areas of tables a store has.
+const TABLES: u32 = MAX_TABLES as u32;
+
+/// How many areas of indexes it has.
+const INDEXES: u32 = MAX_INDEXES as u32;
 
 /// How many jobs a store has.
 const JOBS: u32 = 8;
@@ -143,7 +147,7 @@ fn jobs_at(sizes: &Sizes) -> u32
     requires { AreSizes sizes.now }
     ensures { result ≡ 5 + 16 * sizes.now.table + 16 * sizes.now.index }
 {
-    TABLES_AT + TABLES * sizes.table + TABLES * sizes.index
+    TABLES_AT + TABLES * sizes.table + INDEXES * sizes.index
 }
 
 /// The first page of a job.

@@ -2,7 +2,7 @@
 
 ghost use Rattle.std.specs.Prelude.{◌≡◌, ℕ, ◌+◌, ◌-◌, ◌^◌, ◌<◌, ◌≤◌, length, take, drop, ◌&&◌, IsTrue, MatchOption, ⊤};
 ghost use Rattle.std.specs.Int.{bytes_low_first};
-ghost use Rattle.qsr_layout.specs.Page.{Holds, SameOutside};
+ghost use Rattle.qsr_layout.specs.Page.{PageHolds, PageSameOutside};
 ghost use Rattle.qsr_layout.specs.StoreHead.{store_head_field};
 ghost use Rattle.qsr_layout.specs.SlotHead.{slot_head_field};
 ghost use Rattle.page_store.specs.Format.{behind_gate, head_rest, slot_front};
@@ -11,10 +11,9 @@ ghost use Rattle.page_store.specs.PageOrder.{AreSizes};
 ghost use Rattle.page_store.specs.Twin.{number_in};
 
 use crate::Sizes;
-use qsr_layout::records::{
-    SLOT_BODY_AT, SLOT_HEAD, STORE_HEAD, SlotHeadField, StoreHeadField, records_are_checked,
-};
-use qsr_layout::{PAGE_BYTES, read_field, write_field};
+use qsr_layout::records::{SLOT_BODY_AT, SLOT_HEAD, STORE_HEAD, SlotHeadField, StoreHeadField};
+use qsr_layout::{laws, read_field, write_field};
+use qsr_value::{MAX_AREA_PAGES, PAGE_BYTES};
 
 /// The gate of what is whole.
 pub(crate) const OPEN: u8 = 0xA5;
@@ -31,9 +30,6 @@ pub(crate) const FRONT_BYTES: usize = PAGE_BYTES - SLOT_BODY_AT;
 /// The text QSRSTOR1, its first letter as the lowest byte.
 const STORE_TEXT: u128 = 0x3152_4F54_5352_5351;
 
-/// An area has so many pages at most.
-const MOST_PAGES: u32 = 65_536;
-
 /// The version of the format.
 const VERSION: u128 = 1;
 
@@ -49,10 +45,11 @@ const _: () = prove!(
 /// Puts a number into a field of the store head.
 fn put_head_field(page: &mut [u8; PAGE_BYTES], field: StoreHeadField, value: u128)
     requires { value < 256 ^ (store_head_field field).bytes }
-    ensures bytes { Holds page.new (store_head_field field).at (bytes_low_first 0 (store_head_field field).bytes value) }
-    ensures outside { SameOutside (store_head_field field).at (store_head_field field).bytes page.old page.new }
+    ensures bytes { PageHolds page.new (store_head_field field).at (bytes_low_first 0 (store_head_field field).bytes value) }
+    ensures outside { PageSameOutside (store_head_field field).at (store_head_field field).bytes page.old page.new }
 {
-    records_are_checked();
+    // For the proof: each field of the record is one that can be read and written.
+    laws::records_are_checked();
     write_field(&STORE_HEAD, field.index(), page, value);
 }
 
@@ -75,18 +72,19 @@ pub(crate) fn head_page(sizes: &Sizes) -> [u8; PAGE_BYTES]
 /// Puts a number into a field of a slot's head.
 fn put_slot_field(page: &mut [u8; PAGE_BYTES], field: SlotHeadField, value: u128)
     requires { value < 256 ^ (slot_head_field field).bytes }
-    ensures bytes { Holds page.new (slot_head_field field).at (bytes_low_first 0 (slot_head_field field).bytes value) }
-    ensures outside { SameOutside (slot_head_field field).at (slot_head_field field).bytes page.old page.new }
+    ensures bytes { PageHolds page.new (slot_head_field field).at (bytes_low_first 0 (slot_head_field field).bytes value) }
+    ensures outside { PageSameOutside (slot_head_field field).at (slot_head_field field).bytes page.old page.new }
 {
-    records_are_checked();
+    // For the proof: each field of the record is one that can be read and written.
+    laws::records_are_checked();
     write_field(&SLOT_HEAD, field.index(), page, value);
 }
 
 /// Puts the body of a slot behind its head.
 fn put_body(page: &mut [u8; PAGE_BYTES], body: &[u8])
     requires { length body.now ≤ 4088 }
-    ensures bytes { Holds page.new SLOT_BODY_AT body.now }
-    ensures outside { SameOutside SLOT_BODY_AT (length body.now) page.old page.new }
+    ensures bytes { PageHolds page.new SLOT_BODY_AT body.now }
+    ensures outside { PageSameOutside SLOT_BODY_AT (length body.now) page.old page.new }
 {
     page[SLOT_BODY_AT..SLOT_BODY_AT + body.len()].copy_from_slice(body);
 }
@@ -111,7 +109,8 @@ fn head_field(page: &[u8; PAGE_BYTES], field: StoreHeadField) -> u128
     ensures value { result ≡ number_in (store_head_field field) page.now }
     ensures fits { result < 256 ^ (store_head_field field).bytes }
 {
-    records_are_checked();
+    // For the proof: each field of the record is one that can be read and written.
+    laws::records_are_checked();
     read_field(&STORE_HEAD, field.index(), page)
 }
 
@@ -119,7 +118,7 @@ fn head_field(page: &[u8; PAGE_BYTES], field: StoreHeadField) -> u128
 fn is_size(pages: u32) -> bool
     ensures { result ≡ is_size pages }
 {
-    1 <= pages && pages <= MOST_PAGES
+    1 <= pages && pages <= MAX_AREA_PAGES
 }
 
 /// Whether all sizes are such numbers.

@@ -3,17 +3,17 @@
 ghost use Rattle.std.specs.Prelude.{◌≡◌, ℕ, ◌+◌, ◌*◌, ◌^◌, ◌<◌, ◌≤◌, ◌==◌, length, slice_index, MatchOption, ⊤, IfOk, OnOk};
 ghost use Rattle.disk_model.specs.Image.{Holds};
 ghost use Rattle.disk_model.specs.View.{Stays};
-ghost use Rattle.qsr_value.specs.Causes.{CountsFault, count_behind, next_count};
+ghost use Rattle.qsr_value.specs.Causes.{CountsFault, count_after, next_count};
 ghost use Rattle.qsr_layout.specs.SlotHead.{slot_head_field};
 ghost use Rattle.page_store.specs.Twin.{AreHeads, found_of, head_at, is_current, is_open, is_whole, next_sequence, number_in, stale_of};
 
 use crate::records::OPEN;
 use disk_model::Disk;
-use qsr_layout::records::{SLOT_BODY_AT, SLOT_HEAD, SlotHeadField, records_are_checked};
-use qsr_layout::{PAGE_BYTES, read_field};
-use qsr_value::Failed;
+use qsr_layout::records::{SLOT_BODY_AT, SLOT_HEAD, SlotHeadField};
+use qsr_layout::{laws, read_field};
+use qsr_value::{Failed, PAGE_BYTES};
 
-/// The first sequence behind which 0 comes again.
+/// The first sequence after which 0 comes again.
 const LAST_SEQUENCE: u8 = 2;
 
 /// What stands in front of the body of a slot.
@@ -39,7 +39,7 @@ impl SlotHead {
         self.sequence <= LAST_SEQUENCE && self.len as u64 + SLOT_BODY_AT as u64 <= span
     }
 
-    /// Whether it comes behind another slot, both being whole.
+    /// Whether it comes after another slot, both being whole.
     fn comes_behind(&self, other: &SlotHead) -> bool
         ensures { result ≡ (self.now.sequence == next_sequence other.now.sequence) }
     {
@@ -56,7 +56,7 @@ impl SlotHead {
     }
 }
 
-/// The sequence behind another.
+/// The sequence after another.
 pub(crate) fn next_sequence(sequence: u8) -> u8
     ensures { result ≡ next_sequence sequence }
 {
@@ -72,7 +72,8 @@ fn slot_field(page: &[u8; PAGE_BYTES], field: SlotHeadField) -> u128
     ensures value { result ≡ number_in (slot_head_field field) page.now }
     ensures fits { result < 256 ^ (slot_head_field field).bytes }
 {
-    records_are_checked();
+    // For the proof: each field of the record is one that can be read and written.
+    laws::records_are_checked();
     read_field(&SLOT_HEAD, field.index(), page)
 }
 
@@ -181,7 +182,7 @@ pub(crate) fn read_heads<D: Disk>(disk: &mut D, at: u64, span: u64) -> Result<He
     ensures heads { IfOk result (λ heads. (D.view disk.old).honest → AreHeads span at (D.view disk.old).seen heads) }
     ensures stays { Stays (D.view disk.old) (D.view disk.new) }
     ensures faults { CountsFault result (D.faults_of disk.old) (D.faults_of disk.new) }
-    ensures reads { OnOk result (D.reads_of disk.new ≡ count_behind 2 (D.reads_of disk.old)) }
+    ensures reads { OnOk result (D.reads_of disk.new ≡ count_after 2 (D.reads_of disk.old)) }
     ensures writes { D.writes_of disk.new ≡ D.writes_of disk.old }
     ensures syncs { D.syncs_of disk.new ≡ D.syncs_of disk.old }
     ensures size { D.size_of disk.new ≡ D.size_of disk.old }

@@ -2,7 +2,7 @@
 
 ghost use Rattle.std.specs.Prelude.{◌≡◌, ◌+◌, ◌*◌, ◌^◌, ◌<◌, ◌≤◌, length, sum, take, drop, Some, OnOk, IfOk, IfErr, MatchResult};
 ghost use Rattle.disk_model.specs.View.{After, EachImage, IsSynced, LeavesOnly, Stays, Steps};
-ghost use Rattle.qsr_value.specs.Causes.{CountsAtMost, CountsFault, count_behind, next_count};
+ghost use Rattle.qsr_value.specs.Causes.{CountsAtMost, CountsFault, count_after, next_count};
 ghost use Rattle.page_store.specs.Format.{CausedBy};
 ghost use Rattle.page_store.specs.PageOrder.{AreSizes, IsArea, area_pages, part_of, parts};
 
@@ -58,7 +58,7 @@ impl<'d, D: Disk> Store<'d, D> {
 
         // Where it answers it has made 19 reads: the head, and the two slots of each twin. Where no store is there it has
         // read as far as it had to.
-        ensures reads { IfOk result (λ store. D.reads_of store.disk.now ≡ count_behind 19 (D.reads_of disk.old)) }
+        ensures reads { IfOk result (λ store. D.reads_of store.disk.now ≡ count_after 19 (D.reads_of disk.old)) }
         ensures none_reads { IfErr result (λ e. ReadsNoStore e.fault (D.reads_of disk.old) (D.reads_of e.disk.now)) }
         ensures size { MatchResult result (λ store. D.size_of store.disk.now ≡ D.size_of disk.old) (λ e. D.size_of e.disk.now ≡ D.size_of disk.old) }
         ensures writes { MatchResult result (λ store. D.writes_of store.disk.now ≡ D.writes_of disk.old) (λ e. D.writes_of e.disk.now ≡ D.writes_of disk.old) }
@@ -85,7 +85,7 @@ impl<'d, D: Disk> Store<'d, D> {
         ensures same { self.new.disk.ghost_name ≡ self.old.disk.ghost_name }
         ensures faults { MatchResult result (λ n. D.faults_of self.new.disk.now ≡ D.faults_of self.old.disk.now)
             (λ fault. CausedBy fault (D.faults_of self.old.disk.now) (D.faults_of self.new.disk.now)) }
-        ensures reads { IfOk result (λ n. D.reads_of self.new.disk.now ≡ count_behind (2 + body_reads n) (D.reads_of self.old.disk.now)) }
+        ensures reads { IfOk result (λ n. D.reads_of self.new.disk.now ≡ count_after (2 + body_reads n) (D.reads_of self.old.disk.now)) }
         ensures none_reads { IfErr result (λ fault. ReadsNoBody fault (D.reads_of self.old.disk.now) (D.reads_of self.new.disk.now)) }
         ensures writes { D.writes_of self.new.disk.now ≡ D.writes_of self.old.disk.now }
         ensures syncs { D.syncs_of self.new.disk.now ≡ D.syncs_of self.old.disk.now }
@@ -201,9 +201,9 @@ impl<'d, D: Disk> Store<'d, D> {
         ensures writes_most { CountsAtMost (slot_pages (length body.now) + 2) (D.writes_of self.old.disk.now) (D.writes_of self.new.disk.now) }
 
         // Where it answers that it is done.
-        ensures reads { OnOk result (D.reads_of self.new.disk.now ≡ count_behind 2 (D.reads_of self.old.disk.now)) }
+        ensures reads { OnOk result (D.reads_of self.new.disk.now ≡ count_after 2 (D.reads_of self.old.disk.now)) }
         ensures writes { OnOk result (HasCommitWrites (length body.now) (D.writes_of self.old.disk.now) (D.writes_of self.new.disk.now)) }
-        ensures syncs { OnOk result (D.syncs_of self.new.disk.now ≡ count_behind 3 (D.syncs_of self.old.disk.now)) }
+        ensures syncs { OnOk result (D.syncs_of self.new.disk.now ≡ count_after 3 (D.syncs_of self.old.disk.now)) }
     {
         let place = place_of(&self.sizes, twin);
         commit_at(self.disk, place.at, place.span, body)

@@ -3,7 +3,7 @@
 ghost use Rattle.std.specs.Prelude.{◌==◌, if◌then◌else◌, ◌≡◌, ◌≢◌, ◌⊎◌, ◌+◌, ◌*◌, ◌^◌, ◌<◌, ◌≤◌, length, take, drop, option_map, is_some, MatchOption, ⊤, OnOk, IfOk};
 ghost use Rattle.disk_model.specs.Image.{Holds, SameOutside};
 ghost use Rattle.disk_model.specs.View.{EachImage, IsSynced, LeavesOnly, Stays, Steps};
-ghost use Rattle.qsr_value.specs.Causes.{CountsAtMost, CountsFault, count_behind, next_count};
+ghost use Rattle.qsr_value.specs.Causes.{CountsAtMost, CountsFault, count_after, next_count};
 ghost use Rattle.page_store.specs.Format.{behind_gate};
 ghost use Rattle.page_store.specs.Store.{HasCommitWrites, body_reads, slot_pages};
 ghost use Rattle.page_store.specs.Twin.{IsClosedOrHolds, IsCommitted, IsOldOrNew, IsTwinReady, KeepsOutside, twin_body};
@@ -12,9 +12,8 @@ use crate::gates::{shut, unlock};
 use crate::records::{CLOSED, FRONT_BYTES, OPEN, PAGE, slot_page};
 use crate::slots::{Found, Stale, read_heads};
 use disk_model::Disk;
-use qsr_layout::PAGE_BYTES;
 use qsr_layout::records::SLOT_BODY_AT;
-use qsr_value::Failed;
+use qsr_value::{Failed, PAGE_BYTES};
 
 /// Writes what stands in the first page of a slot behind its gate.
 fn write_front<D: Disk>(disk: &mut D, stale: &Stale, len: u32, front: &[u8]) -> Result<(), Failed>
@@ -42,7 +41,7 @@ fn write_behind<D: Disk>(disk: &mut D, stale: &Stale, body: &[u8]) -> Result<(),
     ensures steps { Steps (SameOutside (stale.now.slot + 1) (7 + length body.now)) (D.view disk.old) (D.view disk.new) }
     ensures faults { CountsFault result (D.faults_of disk.old) (D.faults_of disk.new) }
     ensures reads { D.reads_of disk.new ≡ D.reads_of disk.old }
-    ensures writes { OnOk result (D.writes_of disk.new ≡ count_behind (slot_pages (length body.now)) (D.writes_of disk.old)) }
+    ensures writes { OnOk result (D.writes_of disk.new ≡ count_after (slot_pages (length body.now)) (D.writes_of disk.old)) }
     ensures writes_most { CountsAtMost (slot_pages (length body.now)) (D.writes_of disk.old) (D.writes_of disk.new) }
     ensures syncs { D.syncs_of disk.new ≡ D.syncs_of disk.old }
     ensures size { D.size_of disk.new ≡ D.size_of disk.old }
@@ -70,9 +69,9 @@ fn replace<D: Disk>(disk: &mut D, stale: &Stale, body: &[u8]) -> Result<(), Fail
     ensures synced { OnOk result (IsSynced (D.view disk.new)) }
     ensures faults { CountsFault result (D.faults_of disk.old) (D.faults_of disk.new) }
     ensures reads { D.reads_of disk.new ≡ D.reads_of disk.old }
-    ensures writes { OnOk result (D.writes_of disk.new ≡ count_behind (slot_pages (length body.now) + (if stale.now.gate == OPEN then 2 else 1)) (D.writes_of disk.old)) }
+    ensures writes { OnOk result (D.writes_of disk.new ≡ count_after (slot_pages (length body.now) + (if stale.now.gate == OPEN then 2 else 1)) (D.writes_of disk.old)) }
     ensures writes_most { CountsAtMost (slot_pages (length body.now) + 2) (D.writes_of disk.old) (D.writes_of disk.new) }
-    ensures syncs { OnOk result (D.syncs_of disk.new ≡ count_behind 3 (D.syncs_of disk.old)) }
+    ensures syncs { OnOk result (D.syncs_of disk.new ≡ count_after 3 (D.syncs_of disk.old)) }
     ensures size { D.size_of disk.new ≡ D.size_of disk.old }
 {
     shut(disk, stale.slot, stale.gate)?;
@@ -100,10 +99,10 @@ pub(crate) fn commit_at<D: Disk>(
     ensures synced { OnOk result (IsSynced (D.view disk.new)) }
     ensures keeps { KeepsOutside at (2 * span) (D.view disk.old) (D.view disk.new) }
     ensures faults { CountsFault result (D.faults_of disk.old) (D.faults_of disk.new) }
-    ensures reads { OnOk result (D.reads_of disk.new ≡ count_behind 2 (D.reads_of disk.old)) }
+    ensures reads { OnOk result (D.reads_of disk.new ≡ count_after 2 (D.reads_of disk.old)) }
     ensures writes { OnOk result (HasCommitWrites (length body.now) (D.writes_of disk.old) (D.writes_of disk.new)) }
     ensures writes_most { CountsAtMost (slot_pages (length body.now) + 2) (D.writes_of disk.old) (D.writes_of disk.new) }
-    ensures syncs { OnOk result (D.syncs_of disk.new ≡ count_behind 3 (D.syncs_of disk.old)) }
+    ensures syncs { OnOk result (D.syncs_of disk.new ≡ count_after 3 (D.syncs_of disk.old)) }
     ensures size { D.size_of disk.new ≡ D.size_of disk.old }
 {
     let heads = read_heads(disk, at, span)?;
@@ -120,7 +119,7 @@ fn read_body<D: Disk>(disk: &mut D, found: &Found, buf: &mut [u8; 8192]) -> Resu
     ensures rest { OnOk result (drop found.now.len buf.new ≡ drop found.now.len buf.old) }
     ensures stays { Stays (D.view disk.old) (D.view disk.new) }
     ensures faults { CountsFault result (D.faults_of disk.old) (D.faults_of disk.new) }
-    ensures reads { OnOk result (D.reads_of disk.new ≡ count_behind (body_reads found.now.len) (D.reads_of disk.old)) }
+    ensures reads { OnOk result (D.reads_of disk.new ≡ count_after (body_reads found.now.len) (D.reads_of disk.old)) }
     ensures writes { D.writes_of disk.new ≡ D.writes_of disk.old }
     ensures syncs { D.syncs_of disk.new ≡ D.syncs_of disk.old }
     ensures size { D.size_of disk.new ≡ D.size_of disk.old }
@@ -154,8 +153,8 @@ pub(crate) fn current_at<D: Disk>(
     ensures rest { IfOk result (λ n. MatchOption n (buf.new ≡ buf.old) (λ k. drop k buf.new ≡ drop k buf.old)) }
     ensures stays { Stays (D.view disk.old) (D.view disk.new) }
     ensures faults { CountsFault result (D.faults_of disk.old) (D.faults_of disk.new) }
-    ensures reads { IfOk result (λ n. MatchOption n (D.reads_of disk.new ≡ count_behind 2 (D.reads_of disk.old))
-        (λ k. D.reads_of disk.new ≡ count_behind (2 + body_reads k) (D.reads_of disk.old))) }
+    ensures reads { IfOk result (λ n. MatchOption n (D.reads_of disk.new ≡ count_after 2 (D.reads_of disk.old))
+        (λ k. D.reads_of disk.new ≡ count_after (2 + body_reads k) (D.reads_of disk.old))) }
     ensures writes { D.writes_of disk.new ≡ D.writes_of disk.old }
     ensures syncs { D.syncs_of disk.new ≡ D.syncs_of disk.old }
     ensures size { D.size_of disk.new ≡ D.size_of disk.old }
@@ -177,7 +176,7 @@ pub(crate) fn has_current<D: Disk>(disk: &mut D, at: u64, span: u64) -> Result<b
     ensures current { IfOk result (λ is. (D.view disk.old).honest → is ≡ is_some (twin_body span at (D.view disk.old).seen)) }
     ensures stays { Stays (D.view disk.old) (D.view disk.new) }
     ensures faults { CountsFault result (D.faults_of disk.old) (D.faults_of disk.new) }
-    ensures reads { OnOk result (D.reads_of disk.new ≡ count_behind 2 (D.reads_of disk.old)) }
+    ensures reads { OnOk result (D.reads_of disk.new ≡ count_after 2 (D.reads_of disk.old)) }
     ensures writes { D.writes_of disk.new ≡ D.writes_of disk.old }
     ensures syncs { D.syncs_of disk.new ≡ D.syncs_of disk.old }
     ensures size { D.size_of disk.new ≡ D.size_of disk.old }

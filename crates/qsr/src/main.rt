@@ -38,7 +38,7 @@ fn open_file(rt: &HostRuntime, file: &str, make: bool) -> io::Result<File> {
         .open(rt, file)
 }
 
-/// Makes FILE, and syncs its folder, so that a crash behind it leaves FILE's entry there.
+/// Makes FILE, and syncs its folder, so that a crash after it leaves FILE's entry there.
 fn make_file(rt: &HostRuntime, file: &str) -> io::Result<File> {
     let made = open_file(rt, file, true)?;
     File::open(rt, folder_of(file))?.sync_all()?;

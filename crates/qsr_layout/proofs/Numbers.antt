@@ -5,7 +5,7 @@ use Rattle.std.proofs.lemmas.List.{get_or-drop}
 use Rattle.std.specs.Int.{byte_at, bytes_low_first}
 use Rattle.byteorder.specs.Endian.{little_bytes, little_from}
 use Rattle.byteorder.specs.Numbers.{length-bytes_low_first, little_number-reads_back}
-use Rattle.qsr_layout.specs.Page.{Holds}
+use Rattle.qsr_layout.specs.Page.{PageHolds}
 
 -- the number reads only its own bytes
 pub little_from-same : (at n : ℕ) (xs ys : List ℕ) → ((k : ℕ) → at ≤ k → k < at + n → slice_index xs k ≡ slice_index ys k)
@@ -33,7 +33,7 @@ little_from-drop at n page =
     sym (ap (λ (i : ℕ). little_from i n page) (sym start) ∙ little_from-moved at 0 n page (drop at page) (λ k high. sym (get_or-drop at page k 0)))
 
 -- where the bytes of a number stand, that number stands
-pub little_from-holds : (at n v : ℕ) (page : List ℕ) → v < 256 ^ n → Holds page at (little_bytes n v) → little_from at n page ≡ v
+pub little_from-holds : (at n v : ℕ) (page : List ℕ) → v < 256 ^ n → PageHolds page at (little_bytes n v) → little_from at n page ≡ v
 little_from-holds at n v page fits holds =
     let long : length (little_bytes n v) ≡ n = length-bytes_low_first 0 n v in
     let start : at + 0 ≡ at = omega arith in
@@ -54,14 +54,14 @@ low_first-next j (suc n) x =
     rw (byte, rest) refl
 
 -- a byte, and others behind it
-holds-cons : (at : ℕ) (page : List ℕ) (b : ℕ) (bs : List ℕ) → slice_index page at ≡ b → Holds page (suc at) bs → Holds page at (b ∷ bs)
+holds-cons : (at : ℕ) (page : List ℕ) (b : ℕ) (bs : List ℕ) → slice_index page at ≡ b → PageHolds page (suc at) bs → PageHolds page at (b ∷ bs)
 holds-cons at page b bs byte rest = record { each = each } where
   each : (k : ℕ) → k < length (b ∷ bs) → slice_index page (at + k) ≡ slice_index (b ∷ bs) k
   each zero inside = let here : at + 0 ≡ at = omega arith in ap (slice_index page) here ∙ byte
   each (suc k) inside = let there : at + suc k ≡ suc at + k = omega arith in ap (slice_index page) there ∙ rest.each k (omega arith)
 
 -- the number in some bytes has these bytes
-pub holds-little_from : (at n : ℕ) (page : List ℕ) → ((k : ℕ) → slice_index page k < 256) → Holds page at (little_bytes n (little_from at n page))
+pub holds-little_from : (at n : ℕ) (page : List ℕ) → ((k : ℕ) → slice_index page k < 256) → PageHolds page at (little_bytes n (little_from at n page))
 holds-little_from at zero page bytes = record { each = λ k inside. absurd (omega arith) }
 holds-little_from at (suc n) page bytes =
     let byte = bytes at in

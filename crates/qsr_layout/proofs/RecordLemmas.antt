@@ -1,6 +1,6 @@
 -- The records of the store are checked, for calls among so many facts that a search gives up.
 use Rattle.std.proofs.Common.{rules}
-use Rattle.qsr_layout.specs.declared.records.TheConstants.{STORE_HEAD, SLOT_HEAD, JOB_HEAD}
+use Rattle.qsr_layout.specs.declared.records.TheConstants.{STORE_HEAD, SLOT_HEAD}
 use Rattle.qsr_layout.specs.Fields.{IsChecked}
 
 pub store_head_is_checked : IsChecked STORE_HEAD.fields
@@ -8,6 +8,3 @@ store_head_is_checked = search rules
 
 pub slot_head_is_checked : IsChecked SLOT_HEAD.fields
 slot_head_is_checked = search rules
-
-pub job_head_is_checked : IsChecked JOB_HEAD.fields
-job_head_is_checked = search rules

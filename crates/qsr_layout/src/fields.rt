@@ -2,13 +2,11 @@
 
 ghost use Rattle.std.specs.Prelude.{◌≡◌, ◌≢◌, ℕ, ◌+◌, ◌^◌, ◌<◌, ◌≤◌, ◌↔◌, IsTrue};
 ghost use Rattle.byteorder.specs.Endian.{little_bytes};
-ghost use Rattle.qsr_layout.specs.Fields.{IsChecked, field_value, start_of, width_of};
-ghost use Rattle.qsr_layout.specs.Page.{Holds, SameOutside};
+ghost use Rattle.qsr_layout.specs.Fields.{IsChecked, field_value, field_start_of, field_width_of};
+ghost use Rattle.qsr_layout.specs.Page.{PageHolds, PageSameOutside};
 
 use byteorder::{ByteOrder, LittleEndian};
-
-/// How many bytes a page of the store has.
-pub const PAGE_BYTES: usize = 4096;
+use qsr_value::PAGE_BYTES;
 
 /// How many bytes a field has at most: those of the widest number.
 const FIELD_BYTES: u8 = 16;
@@ -54,7 +52,7 @@ pub fn read_field<const N: usize>(l: &Layout<N>, i: usize, page: &[u8; PAGE_BYTE
     requires checked { IsChecked l.now.fields }
     requires inside { i < N }
     ensures value { result ≡ field_value l.now.fields i page.now }
-    ensures fits { result < 256 ^ width_of l.now.fields i }
+    ensures fits { result < 256 ^ field_width_of l.now.fields i }
 {
     let field = l.fields[i];
     LittleEndian::read_uint128(&page[field.at as usize..], field.bytes as usize)
@@ -64,9 +62,9 @@ pub fn read_field<const N: usize>(l: &Layout<N>, i: usize, page: &[u8; PAGE_BYTE
 pub fn write_field<const N: usize>(l: &Layout<N>, i: usize, page: &mut [u8; PAGE_BYTES], v: u128)
     requires checked { IsChecked l.now.fields }
     requires inside { i < N }
-    requires fits { v < 256 ^ width_of l.now.fields i }
-    ensures bytes { Holds page.new (start_of l.now.fields i) (little_bytes (width_of l.now.fields i) v) }
-    ensures outside { SameOutside (start_of l.now.fields i) (width_of l.now.fields i) page.old page.new }
+    requires fits { v < 256 ^ field_width_of l.now.fields i }
+    ensures bytes { PageHolds page.new (field_start_of l.now.fields i) (little_bytes (field_width_of l.now.fields i) v) }
+    ensures outside { PageSameOutside (field_start_of l.now.fields i) (field_width_of l.now.fields i) page.old page.new }
 
     // A field that was written is read back, and any other field keeps its number.
     ensures reads_back { field_value l.now.fields i page.new ≡ v }
@@ -81,8 +79,8 @@ fn put_number(page: &mut [u8; PAGE_BYTES], field: Field, v: u128)
     requires most { field.bytes ≤ FIELD_BYTES }
     requires within { field.at + field.bytes ≤ PAGE_BYTES }
     requires fits { v < 256 ^ field.bytes }
-    ensures bytes { Holds page.new field.at (little_bytes field.bytes v) }
-    ensures outside { SameOutside field.at field.bytes page.old page.new }
+    ensures bytes { PageHolds page.new field.at (little_bytes field.bytes v) }
+    ensures outside { PageSameOutside field.at field.bytes page.old page.new }
 {
     LittleEndian::write_uint128(&mut page[field.at as usize..], v, field.bytes as usize);
 }

@@ -2,6 +2,7 @@
 #![tactic(auto)]
 
 mod fields;
+pub mod laws;
 pub mod records;
 
-pub use fields::{Field, Layout, PAGE_BYTES, read_field, write_field};
+pub use fields::{Field, Layout, read_field, write_field};

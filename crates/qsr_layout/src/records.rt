@@ -2,10 +2,9 @@
 //! format, which specs/ has once more by the names of the fields, is what the clauses `field` say.
 
 ghost use Rattle.std.specs.Prelude.{◌≡◌, ◌<◌};
-ghost use Rattle.qsr_layout.specs.Fields.{IsChecked, field_at};
+ghost use Rattle.qsr_layout.specs.Fields.{field_at};
 ghost use Rattle.qsr_layout.specs.StoreHead.{store_head_place, store_head_field};
 ghost use Rattle.qsr_layout.specs.SlotHead.{slot_head_place, slot_head_field};
-ghost use Rattle.qsr_layout.specs.JobHead.{job_head_place, job_head_field};
 
 use crate::{Field, Layout};
 
@@ -36,40 +35,15 @@ pub const SLOT_HEAD: Layout<4> = Layout {
 /// Where the body of a slot begins.
 pub const SLOT_BODY_AT: usize = 8;
 
-/// The head of a job, which is the body of a slot. Its offsets count from the start of the body.
-pub const JOB_HEAD: Layout<6> = Layout {
-    fields: [
-        Field { at: 0, bytes: 1 },
-        Field { at: 1, bytes: 8 },
-        Field { at: 9, bytes: 4 },
-        Field { at: 13, bytes: 1 },
-        Field { at: 14, bytes: 4 },
-        Field { at: 18, bytes: 4 },
-    ],
-};
-
-/// How many bytes the head of a job has.
+/// How many bytes the head of a job has, which is the body of a slot.
 pub const JOB_HEAD_BYTES: usize = 22;
 
-// A record ends where its last field ends, and behind the head of a slot its body begins.
+// The head of a slot ends where its last field ends, and there its body begins.
 const _: () = prove!(
     SLOT_HEAD.fields[SlotHeadField::Zero as usize].at as usize
         + SLOT_HEAD.fields[SlotHeadField::Zero as usize].bytes as usize
         == SLOT_BODY_AT
 );
-
-const _: () = prove!(
-    JOB_HEAD.fields[JobHeadField::SpillUsed as usize].at as usize
-        + JOB_HEAD.fields[JobHeadField::SpillUsed as usize].bytes as usize
-        == JOB_HEAD_BYTES
-);
-
-/// A law: each record of the store is a checked layout. A call does nothing, and a proof behind it knows the law.
-pub const fn records_are_checked()
-    ensures store_head { IsChecked STORE_HEAD.fields }
-    ensures slot_head { IsChecked SLOT_HEAD.fields }
-    ensures job_head { IsChecked JOB_HEAD.fields }
-{}
 
 /// The fields of the head of a store, in the order of its layout.
 #[derive(Clone, Copy)]
@@ -118,30 +92,6 @@ impl SlotHeadField {
         ensures place { result ≡ slot_head_place self }
         ensures inside { result < 4 }
         ensures field { field_at SLOT_HEAD.fields result ≡ slot_head_field self }
-    {
-        self as usize
-    }
-}
-
-/// The fields of the head of a job, in the order of its layout.
-#[derive(Clone, Copy)]
-pub enum JobHeadField {
-    Phase,
-    Rows,
-    /// How many bytes of the output area are used.
-    End,
-    /// The image side of the job, or 0 for none.
-    Side,
-    ImagePages,
-    SpillUsed,
-}
-
-impl JobHeadField {
-    /// Its place in the layout.
-    pub const fn index(self) -> usize
-        ensures place { result ≡ job_head_place self }
-        ensures inside { result < 6 }
-        ensures field { field_at JOB_HEAD.fields result ≡ job_head_field self }
     {
         self as usize
     }

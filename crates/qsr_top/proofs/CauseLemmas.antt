@@ -1,11 +1,11 @@
 -- The cause of a status, by what is told.
 use Rattle.std.proofs.Common.{◌≡◌, ℕ, ◌≤◌, List, Option, inl, inr, ⊎_elim, refl, sym, subst, arith}
 use Rattle.qsr_value.specs.Causes.{RoseByOne}
-use Rattle.qsr_top.specs.declared.end.End.{End}
-use Rattle.qsr_top.specs.declared.end.End.TheVariants.{SinkFault}
+use Rattle.row_script.specs.declared.end.End.{End}
+use Rattle.row_script.specs.declared.end.End.TheVariants.{SinkFault}
 use Rattle.qsr_top.specs.declared.told.Told.{Told}
 use Rattle.qsr_top.specs.declared.told.Told.TheVariants as told
-use Rattle.qsr_top.specs.Ends.{StatusCause, status_of}
+use Rattle.row_script.specs.Ends.{StatusCause, status_of}
 use Rattle.qsr_top.specs.Told.{IsToldOr, TakesMemory, ToldCause, told_end}
 
 -- no count rose

@@ -1,5 +1,5 @@
 -- What `create` leaves.
-use Rattle.std.proofs.Common.{◌≡◌, ◌⊎◌, ℕ, List, [], ◌∷◌, ◌++◌, Some, map, inl, inr, ⊎_elim, refl, sym, ap, subst, ◌∙◌}
+use Rattle.std.proofs.Common.{◌≡◌, ◌⊎◌, ℕ, List, [], ◌∷◌, ◌++◌, Some, inl, inr, ⊎_elim, refl, sym, ap, subst, ◌∙◌}
 use Rattle.std.specs.List.{AllByRecursion}
 use Rattle.disk_model.specs.Image.{Image}
 use Rattle.disk_model.specs.View.{View, After, EachImage, LeavesOnly, Stays}
@@ -14,31 +14,22 @@ use Rattle.page_store.specs.declared.pages.Sizes.{Sizes}
 use Rattle.qsr_value.specs.declared.schema.Column.{Column}
 use Rattle.table_file.specs.CatalogueBytes.{IsCatalogue}
 use Rattle.table_file.specs.Refusals.{HasNoCatalogue, IsCreateFault, create_refusal, table_names}
-use Rattle.table_file.specs.Tables.{AreRows, AreTables, HasTables, OnlyTables, Table, Tables, catalogue_of, entry_of, names_of, with_table}
+use Rattle.table_file.specs.Tables.{AreRows, AreTables, HasTables, OnlyTables, Table, Tables, catalogue_of, names_of, with_table}
 use Rattle.table_file.specs.declared.catalogue.Catalogue.{Catalogue}
 use Rattle.table_file.specs.declared.fault.TableFault.{TableFault}
 use Rattle.table_file.specs.declared.fault.TableFault.TheVariants.{Exists, CatalogFull, RowTooWide, NoTable, BadField, TableFull, NotStore, Failed, Memory}
-use Rattle.qsr_top.specs.Creating.{Creates, IsToldOfCatalogue, IsToldOfDisk}
+use Rattle.table_file.proofs.Appends.{names_told}
+use Rattle.qsr_top.specs.Create.{Creates, IsToldOfCatalogue, IsToldOfDisk}
 use Rattle.qsr_top.specs.Stored.{IsNotStored, Stands, StandsFor}
 use Rattle.qsr_top.specs.Told.{ToldCause, told_of_fault, told_of_opening}
 use Rattle.qsr_top.specs.declared.told.Told.{Told}
 use Rattle.qsr_top.specs.declared.told.Told.TheVariants as told
 use Rattle.qsr_top.proofs.StandLemmas.{both_runs, still_stands}
 
--- the catalogue names the tables
-names_agree : (tables : List Table) → map (λ entry. entry.name) (map entry_of tables) ≡ map (λ table. table.name) tables
-unfolding entry_of
-names_agree [] = refl
-names_agree (table ∷ tables) = ap (λ names. table.name ∷ names) (names_agree tables)
-
-table_names_of : (s : Tables) → table_names (catalogue_of s) ≡ names_of s
-unfolding catalogue_of
-table_names_of s = names_agree s.tables
-
 pub refusal_agrees : (s : Tables) (catalogue : Catalogue) (name : List ℕ) (columns : List Column) → catalogue ≡ catalogue_of s
     → create_refusal (table_names catalogue) name columns ≡ create_refusal (names_of s) name columns
 refusal_agrees s catalogue name columns is =
-    ap (λ (names : List (List ℕ)). create_refusal names name columns) (ap table_names is ∙ table_names_of s)
+    ap (λ (names : List (List ℕ)). create_refusal names name columns) (ap table_names is ∙ names_told s)
 
 -- A store that stood for some tables is read, and then its catalogue is changed.
 pub stood : {a b : View Contents} {P : Contents → Type 0} → EachImage a P → Stays a b → EachImage b P

@@ -14,8 +14,8 @@ use Rattle.sql_front.specs.Tree as tree
 use Rattle.sql_front.specs.View.{query_tree}
 use Rattle.sql_front.specs.declared.tree.Query.{Query}
 use Rattle.sql_tokens.specs.Tokens.{tokens_of}
-use Rattle.sql_words.specs.Reading as reading
-use Rattle.sql_words.specs.Reading.{IsText, Refuses, whats}
+use Rattle.grammar_laws.specs.Reading as reading
+use Rattle.grammar_laws.specs.Reading.{IsText, Refuses, whats}
 use Rattle.table_file.specs.Tables.{AreTables, HasTables, Table, Tables, catalogue_of, entry_of}
 use Rattle.qsr_value.specs.declared.schema.Column.{Column}
 use Rattle.table_file.specs.declared.catalogue.Catalogue.{Catalogue}
@@ -24,16 +24,19 @@ use Rattle.qsr_top.specs.declared.query_answer.QueryAnswer.{QueryAnswer}
 use Rattle.qsr_top.specs.declared.query_answer.QueryAnswer.TheVariants.{Syntax, WideLiteral, NoTable, NoColumn, Ambiguous, TypeClash, NeedsGroup, NotSelected, UnionClash, NotPlanned}
 use Rattle.qsr_top.specs.declared.told.Told.{Told}
 use Rattle.qsr_top.specs.declared.told.Told.TheVariants as told
-use Rattle.qsr_top.specs.Creating.{IsToldOfCatalogue, IsToldOfDisk}
-use Rattle.qsr_top.specs.Told.{ToldCause}
-use Rattle.qsr_top.specs.Explaining.{AnswersQuery, AnswersText, ComesToExplain, IsAnswer, IsMisread, IsNoLine, IsOnlyLine, IsQuery, IsStoreFault, table_of, table_of_entry, tables_of}
+use Rattle.qsr_top.specs.Create.{IsToldOfCatalogue, IsToldOfDisk}
+use Rattle.qsr_top.specs.Told.{ToldCause, told_of_line}
+use Rattle.qsr_top.specs.Explain.{AnswersQuery, AnswersText, ComesToExplain, IsQueryAnswer, IsMisread, IsNoLine, IsQuery, IsStoreFault, query_table_of, table_of_entry, tables_of}
+use Rattle.input_lines.specs.OneLine.{IsLineFault, IsOnlyLine, LineCause}
+use Rattle.input_lines.specs.declared.line_fault.LineFault.{LineFault}
+use Rattle.input_lines.specs.declared.line_fault.LineFault.TheVariants as lines
 use Rattle.qsr_top.specs.Stored.{IsNotStored, StandsFor}
 use Rattle.table_file.specs.Refusals.{HasNoCatalogue}
 use Rattle.qsr_top.proofs.CreateLemmas.{told_of_disk}
 
-pub IsAnswer-weaker : {misread misread' : reading.Refusal → Type 0} {refused refused' : binder.Refusal → Type 0} {bound bound' : Type 0} (answer : QueryAnswer)
-    → ((refusal : reading.Refusal) → misread refusal → misread' refusal) → ((refusal : binder.Refusal) → refused refusal → refused' refusal) → (bound → bound')
-    → IsAnswer misread refused bound answer → IsAnswer misread' refused' bound' answer
+pub IsAnswer-weaker : {misread misread' : reading.Refusal → Type 0} {refused refused' : binder.BindRefusal → Type 0} {bound bound' : Type 0} (answer : QueryAnswer)
+    → ((refusal : reading.Refusal) → misread refusal → misread' refusal) → ((refusal : binder.BindRefusal) → refused refusal → refused' refusal) → (bound → bound')
+    → IsQueryAnswer misread refused bound answer → IsQueryAnswer misread' refused' bound' answer
 IsAnswer-weaker (Syntax at) first second third is = first _ is
 IsAnswer-weaker (WideLiteral at) first second third is = first _ is
 IsAnswer-weaker (NoTable name at) first second third is = second _ is
@@ -74,7 +77,7 @@ pub answer_misread : (tables : List NamedTable) (text : List ℕ) (told : Option
     → IfSome told (Refuses (words text) spell (tokens_of text))
     → ((query : tree.Query) → IsText spell (whats (words text) (tokens_of text)) query → told ≡ None)
     → ((other : reading.Refusal) → Refuses (words text) spell (tokens_of text) other → (told ≡ None) ⊎ (told ≡ Some other))
-    → IsAnswer (λ refusal. told ≡ Some refusal) (λ refusal. ⊥) ⊥ answer → AnswersText tables text answer
+    → IsQueryAnswer (λ refusal. told ≡ Some refusal) (λ refusal. ⊥) ⊥ answer → AnswersText tables text answer
 answer_misread tables text told answer refused only only_refused is =
     IsAnswer-weaker {misread' = IsMisread text} {refused' = λ refusal. IsQuery tables text (Some refusal)} {bound' = IsQuery tables text None} answer
     (λ refusal same. misread_as text told refusal same refused only only_refused) (λ refusal never. absurd never) (λ never. absurd never) is
@@ -94,10 +97,10 @@ answer_query tables text query answer found only read is =
 
 -- ---- the tables of a store
 
-entries_named : (tables : List Table) → map table_of_entry (map entry_of tables) ≡ map table_of tables
+entries_named : (tables : List Table) → map table_of_entry (map entry_of tables) ≡ map query_table_of tables
 unfolding entry_of
 entries_named [] = refl
-entries_named (table ∷ tables) = ap (λ others. table_of table ∷ others) (entries_named tables)
+entries_named (table ∷ tables) = ap (λ others. query_table_of table ∷ others) (entries_named tables)
 
 pub tables_named : (catalogue : Catalogue) (s : Tables) (tables : List NamedTable) → catalogue ≡ catalogue_of s → tables ≡ map table_of_entry catalogue.tables → tables ≡ tables_of s
 unfolding catalogue_of
@@ -183,3 +186,14 @@ told_without_line size left left' disk faults faults' source source' fault same 
   stored = λ sizes s are stands honest page is. subst (IsNoLine (IsOnlyLine left)) is none;
   unstored = λ page honest not_stored. absurd (read page honest not_stored);
 }
+
+-- what is told of an input that isn't read as one line · its cause
+pub line_told : (reads : Result (List ℕ) ℕ → Type 0) (fault : LineFault) → IsLineFault reads fault → IsNoLine reads (told_of_line fault)
+line_told reads (lines.BadLine number) none = none
+line_told reads lines.Failed none = tt
+line_told reads lines.Memory none = tt
+
+pub line_caused : (fault : LineFault) (disk source source' : ℕ) → LineCause fault source source' → ToldCause (told_of_line fault) disk disk source source'
+line_caused (lines.BadLine number) disk source source' cause = (refl, cause)
+line_caused lines.Failed disk source source' cause = (refl, cause)
+line_caused lines.Memory disk source source' cause = (refl, cause)

@@ -11,10 +11,10 @@ use Rattle.page_store.specs.Store.{Contents, contents_of, contents_view}
 use Rattle.page_store.specs.declared.pages.Sizes.{Sizes}
 use Rattle.table_file.specs.CatalogueBytes.{catalogue_bytes}
 use Rattle.table_file.specs.Tables.{catalogue_of, no_tables}
-use Rattle.qsr_top.specs.declared.end.End.{End}
-use Rattle.qsr_top.specs.declared.end.End.TheVariants.{Finished, Refused, NoMemory}
-use Rattle.qsr_top.specs.Ends.{end_text}
-use Rattle.qsr_top.specs.Formats.{Formatted, IsEmpty, bytes_needed, formatted_text, too_small_text}
+use Rattle.row_script.specs.declared.end.End.{End}
+use Rattle.row_script.specs.declared.end.End.TheVariants.{Finished, Refused, NoMemory}
+use Rattle.row_script.specs.Ends.{end_text}
+use Rattle.qsr_top.specs.Format.{Formatted, IsEmpty, bytes_needed, formatted_text, too_small_text}
 use Rattle.qsr_top.specs.Stored.{Stands}
 use Rattle.qsr_top.specs.Told.{IsTold}
 

@@ -9,6 +9,7 @@ use Rattle.qsr_value.specs.declared.row.Value.{Value}
 use Rattle.qsr_value.specs.declared.schema.Column.{Column}
 use Rattle.table_file.specs.Tables.{OnlyTables}
 use Rattle.table_file.specs.declared.writer.TableWriter.{TableWriter}
+use Rattle.table_file.proofs.Committing.{only_then}
 use Rattle.qsr_top.proofs.CreateLemmas.{no_change}
 use Rattle.qsr_top.specs.RowsRead.{IsLoading, LoadsRows, WritesBehind}
 
@@ -16,19 +17,8 @@ pub all_more : {A : Type 0} (P : A → Type 0) (xs : List A) (x : A) → AllByRe
 all_more P [] x all last = (last, tt)
 all_more P (first ∷ xs) x all last = (all.0, all_more P xs x all.1 last)
 
--- only tables are changed, and then more of them
-only_twice : (a b c : Contents) → OnlyTables a b → OnlyTables b c → OnlyTables a c
-only_twice a b c one other = record {
-  head = other.head ∙ one.head;
-  bodies = λ twin apart. other.bodies twin apart ∙ one.bodies twin apart;
-  areas = λ part above. other.areas part above ∙ one.areas part above;
-}
-
 pub others-start : (v : View Contents) → LeavesOnly v v (After OnlyTables v)
 others-start v = no_call v (λ c now. (c, now, no_change c))
-
-pub others-then : {a b c : View Contents} → LeavesOnly a b (After OnlyTables a) → LeavesOnly b c (After OnlyTables b) → LeavesOnly a c (After OnlyTables a)
-others-then one other = and_then one other (λ i after. let before = each_now one after.0 after.1 in (before.0, before.1, only_twice before.0 after.0 i before.2 after.2))
 
 pub WritesBehind-start : (v : View Contents) (w : TableWriter) → WritesBehind v v w w
 WritesBehind-start v w = record {
@@ -43,7 +33,7 @@ WritesBehind-then one other = record {
   table = other.table ∙ one.table;
   behind = λ s behind. other.behind s (one.behind s behind);
   keeps = λ s behind each. let first = one.keeps s behind each in and_then first (other.keeps s (one.behind s behind) (each_now first)) (λ i has. has);
-  others = others-then one.others other.others;
+  others = only_then one.others other.others;
 }
 
 pub LoadsRows-start : (sizes : Sizes) (columns : List Column) (full : Bool) (w : TableWriter) (v : View Contents) → LoadsRows sizes columns [] full w v full w v

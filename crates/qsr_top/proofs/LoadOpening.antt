@@ -10,7 +10,7 @@ use Rattle.page_store.specs.Store.{Contents, contents_of, contents_view}
 use Rattle.page_store.specs.declared.fault.StoreFault.{StoreFault}
 use Rattle.page_store.specs.declared.pages.Sizes.{Sizes}
 use Rattle.table_file.specs.Tables.{AreTables, OnlyTables, Tables}
-use Rattle.qsr_top.specs.Loading.{ComesToLoad, Loads}
+use Rattle.qsr_top.specs.Load.{ComesToLoad, Loads}
 use Rattle.qsr_top.specs.Stored.{Stands, StandsFor}
 use Rattle.qsr_top.specs.Told.{told_of_opening}
 use Rattle.qsr_top.specs.declared.told.Told.{Told}

@@ -4,7 +4,7 @@ use Rattle.std.proofs.lemmas.Option.{slice_get-map}
 use Rattle.std.specs.Io.KnownBytes.{prepend_known}
 use Rattle.std.specs.List.{AllByRecursion}
 use Rattle.std.specs.Option.{option_map}
-use Rattle.std.specs.Prelude.{slice_get, slice_set}
+use Rattle.std.specs.Prelude.{slice_get}
 use Rattle.disk_model.specs.Image.{Image}
 use Rattle.disk_model.specs.View.{After, EachImage, LeavesOnly, View}
 use Rattle.disk_model.proofs.Runs.{and_then, weaker_run}
@@ -20,7 +20,8 @@ use Rattle.table_file.specs.Tables.{AreRows, AreTables, HasTables, IsTableOf, On
 use Rattle.table_file.specs.declared.catalogue.Catalogue.{Catalogue}
 use Rattle.table_file.specs.declared.entries.TableEntry.{TableEntry}
 use Rattle.table_file.specs.declared.writer.TableWriter.{TableWriter}
-use Rattle.qsr_top.specs.Loading.{HasLoaded, Loads, StandsLoaded}
+use Rattle.table_file.proofs.Lists.{all_append, all_set}
+use Rattle.qsr_top.specs.Load.{HasLoaded, Loads, StandsLoaded}
 use Rattle.qsr_top.specs.RowsRead.{IsLoading, IsRead, IsReadFault, IsReadFull, IsUnread, LoadsAll}
 use Rattle.qsr_top.specs.Stored.{Stands, StandsFor}
 use Rattle.qsr_top.specs.declared.told.Told.{Told}
@@ -33,15 +34,6 @@ all_at : {A : Type 0} (P : A → Type 0) (xs : List A) (k : ℕ) (x : A) → All
 all_at P [] k x all is = cc
 all_at P (first ∷ xs) zero x all is = let same : first ≡ x = cc in subst P same all.0
 all_at P (first ∷ xs) (suc k) x all is = all_at P xs k x all.1 is
-
-all_set : {A : Type 0} (P : A → Type 0) (xs : List A) (k : ℕ) (x : A) → AllByRecursion P xs → P x → AllByRecursion P (slice_set xs k x)
-all_set P [] k x all is = tt
-all_set P (first ∷ xs) zero x all is = (is, all.1)
-all_set P (first ∷ xs) (suc k) x all is = (all.0, all_set P xs k x all.1 is)
-
-all_both : {A : Type 0} (P : A → Type 0) (xs ys : List A) → AllByRecursion P xs → AllByRecursion P ys → AllByRecursion P (xs ++ ys)
-all_both P [] ys all more = more
-all_both P (x ∷ xs) ys all more = (all.0, all_both P xs ys all.1 more)
 
 -- the columns of a table of a catalogue
 pub schema_at : (sizes : Sizes) (tables : List TableEntry) (k : ℕ) (columns : List Column) → AllByRecursion (IsTable sizes) tables
@@ -132,7 +124,7 @@ AreTables-rows sizes s number t rows are there more catalogue =
     let before : AreRows t.columns t.rows = all_at each s.tables number t are.rows there in
     record {
       catalogue = catalogue;
-      rows = all_set each s.tables number (grown t rows) are.rows (all_both (λ row. Fits t.columns row × AreTexts row) t.rows rows before more);
+      rows = all_set each s.tables number (grown t rows) are.rows (all_append (λ row. Fits t.columns row × AreTexts row) t.rows rows before more);
     }
 
 pub HasLoaded-all : (size : ℕ) (sizes now : Sizes) (s : Tables) (name : List ℕ) (left left' : Option (List ℕ)) (disk : View Image) (t : Table) (w : TableWriter) (v : View Contents) (catalogue : Catalogue) (count : ℕ)

@@ -1,18 +1,17 @@
 -- How rows that are read of an input add up, line by line.
-use Rattle.std.proofs.Common.{◌≡◌, ℕ, ◌+◌, List, [], ◌∷◌, ◌++◌, Option, None, Some, Result, Ok, Err, ap, refl, sym, ◌∙◌, inl, inr, append_assoc, append-nil, if◌then◌else◌}
-use Rattle.std.proofs.lemmas.Bool.{cases_eq}
+use Rattle.std.proofs.Common.{◌≡◌, ℕ, ◌+◌, List, [], ◌∷◌, ◌++◌, Option, None, Some, Result, Ok, Err, ap, refl, sym, ◌∙◌, append_assoc, append-nil}
 use Rattle.std.proofs.lemmas.List.{append_cancel_left}
 use Rattle.std.specs.Io.KnownBytes.{IsAtEnd, prepend_known}
 use Rattle.qsr_value.specs.declared.row.Value.{Value}
 use Rattle.qsr_value.specs.declared.schema.Column.{Column}
-use Rattle.qsr_top.specs.declared.next_line.NextLine.TheVariants.{Unended, End}
+use Rattle.input_lines.specs.declared.next_line.NextLine.TheVariants.{Unended, End}
 use Rattle.qsr_top.specs.declared.told.Told.{Told}
 use Rattle.qsr_top.specs.declared.told.Told.TheVariants.{Created, Loaded, Exists, RowTooWide, CatalogueFull, NoTable, BadField, TableFull, BadLine, NotStore, DiskFault, SourceFault, NoMemory}
-use Rattle.qsr_top.specs.Lines.{InputLine, unended, longer, lines_of}
-use Rattle.qsr_top.specs.Loading.{IsInput, row_in, rows_in}
-use Rattle.qsr_top.specs.NextLine.{IsNextTold}
+use Rattle.input_lines.specs.Lines.{unended, lines_of}
+use Rattle.qsr_top.specs.Load.{IsInput, row_in, rows_in}
+use Rattle.input_lines.specs.NextLine.{IsNextTold}
 use Rattle.qsr_top.specs.RowsRead.{IsReadFault, IsUnread, ReadsRows, in_front}
-use Rattle.qsr_top.proofs.LineLemmas.{lines_of-longer}
+use Rattle.input_lines.proofs.LineLemmas.{both_empty, last_is_all}
 
 in_front-none : (read : Result (List (List Value)) Told) → in_front [] read ≡ read
 in_front-none (Ok rows) = refl
@@ -62,32 +61,6 @@ IsReadFault-weaker CatalogueFull weaker room fault = absurd fault
 IsReadFault-weaker NoTable weaker room fault = absurd fault
 IsReadFault-weaker (NotStore page) weaker room fault = absurd fault
 
--- the bytes that lines have
-line_bytes : InputLine → List ℕ
-line_bytes line = line.text ++ (if line.ended then 10 ∷ [] else [])
-
-joined : List InputLine → List ℕ
-joined [] = []
-joined (line ∷ lines) = line_bytes line ++ joined lines
-
-joined-longer : (byte : ℕ) (lines : List InputLine) → joined (longer byte lines) ≡ byte ∷ joined lines
-unfolding joined line_bytes
-joined-longer byte [] = refl
-joined-longer byte (line ∷ lines) = refl
-
-joined-lines_of : (bytes : List ℕ) → joined (lines_of bytes) ≡ bytes
-unfolding joined line_bytes
-joined-lines_of [] = refl
-joined-lines_of (byte ∷ bytes) = elim (cases_eq byte 10) [
-  | inl lf ↦ rw lf (ap (λ rest. 10 ∷ rest) (joined-lines_of bytes))
-  | inr other ↦ ap joined (lines_of-longer byte bytes other) ∙ joined-longer byte (lines_of bytes) ∙ ap (λ rest. byte ∷ rest) (joined-lines_of bytes)
-]
-
--- the last line, which no LF ends, is all that there is
-pub last_is_all : (bytes text : List ℕ) → lines_of bytes ≡ unended text ∷ [] → bytes ≡ text
-unfolding joined line_bytes
-last_is_all bytes text is = sym (joined-lines_of bytes) ∙ ap joined is ∙ append-nil (text ++ []) ∙ append-nil text
-
 -- the row of the last line, which no LF ends
 pub ReadsRows-last : (columns : List Column) (number : ℕ) (held now : List ℕ) (left : Option (List ℕ)) (row : List Value)
     → now ≡ [] → row_in columns number (unended held) ≡ Ok row → IsNextTold Unended held left
@@ -96,10 +69,6 @@ ReadsRows-last columns number held now None row none is next = tt
 ReadsRows-last columns number held now (Some left) row none is next =
     let more : left ≡ [] = append_cancel_left held left [] (last_is_all (held ++ left) held next ∙ sym (append-nil held)) in
     rw (next, is, none, more) refl
-
-pub both_empty : (held left : List ℕ) → held ++ left ≡ [] → left ≡ []
-both_empty [] left none = none
-both_empty (byte ∷ held) left none = cc
 
 -- the end of the input
 pub IsUnread-none : (columns : List Column) (number : ℕ) (held : List ℕ) (left : Option (List ℕ)) → IsNextTold End held left

@@ -2,10 +2,10 @@
 use Rattle.std.proofs.Common.{◌≡◌, ℕ, List, Option, inl, inr, subst, sym}
 use Rattle.std.specs.Prelude.{Result, IfOk, OnErr}
 use Rattle.std.specs.Prelude.Result.{Ok, Err}
-use Rattle.qsr_top.specs.declared.end.End.{End}
-use Rattle.qsr_top.specs.declared.end.End.TheVariants.{NoMemory}
+use Rattle.row_script.specs.declared.end.End.{End}
+use Rattle.row_script.specs.declared.end.End.TheVariants.{NoMemory}
 use Rattle.qsr_top.specs.declared.told.Told.{Told}
-use Rattle.qsr_top.specs.Ends.{end_text}
+use Rattle.row_script.specs.Ends.{end_text}
 use Rattle.qsr_top.specs.Told.{IsTold, IsToldOr, TakesMemory, told_end, told_text}
 
 -- a line that takes no memory

@@ -11,11 +11,11 @@ use Rattle.table_file.specs.Fields.{read_row}
 use Rattle.table_file.specs.Refusals.{exceeds}
 use Rattle.table_file.specs.Tables.{AreRows, HasTables, OnlyTables, Table, Tables}
 use Rattle.table_file.specs.declared.writer.TableWriter.{TableWriter}
-use Rattle.qsr_top.specs.declared.script.TheConstants.{MAX_LINES}
+use Rattle.qsr_value.specs.declared.limits.TheConstants.{MAX_LINES}
 use Rattle.qsr_top.specs.declared.told.Told.{Told}
 use Rattle.qsr_top.specs.declared.told.Told.TheVariants.{Created, Loaded, Exists, RowTooWide, CatalogueFull, NoTable, BadField, TableFull, BadLine, NotStore, DiskFault, SourceFault, NoMemory}
-use Rattle.qsr_top.specs.Lines.{lines_of}
-use Rattle.qsr_top.specs.Loading.{HasRead, as_field, rows_in}
+use Rattle.input_lines.specs.Lines.{lines_of}
+use Rattle.qsr_top.specs.Load.{HasReadRows, as_field, rows_in}
 
 -- the row that the text of the line of this number is, as far as the line isn't too long
 abbrev pub text_row : List Column → ℕ → List ℕ → Result (List Value) Told
@@ -82,11 +82,11 @@ pub record LoadsAll (sizes : Sizes) (columns : List Column) (number : ℕ) (left
 -- All of the input was read, and its rows are behind those of the table, or it has no room for them.
 pub record IsRead (sizes : Sizes) (table : Table) (left left' : Option (List ℕ)) (full : Bool) (w : TableWriter) (v : View Contents) : Type 0 where
   pub rows : List (List Value)
-  pub read : HasRead table.columns left left' rows
+  pub read : HasReadRows table.columns left left' rows
   pub loading : IsLoading sizes table.columns (table.rows ++ rows) full w v
 
 -- the same of a table that has no room for them
 pub record IsReadFull (sizes : Sizes) (table : Table) (left left' : Option (List ℕ)) : Type 0 where
   pub rows : List (List Value)
-  pub read : HasRead table.columns left left' rows
+  pub read : HasReadRows table.columns left left' rows
   pub full : exceeds sizes table.columns (table.rows ++ rows) ≡ true

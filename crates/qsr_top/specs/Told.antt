@@ -6,13 +6,15 @@ use Rattle.page_store.specs.declared.fault.StoreFault.{StoreFault}
 use Rattle.page_store.specs.declared.fault.StoreFault.TheVariants as stores
 use Rattle.qsr_io.specs.Given.{GivesFront}
 use Rattle.qsr_value.specs.Causes.{RoseByOne}
+use Rattle.input_lines.specs.declared.line_fault.LineFault.{LineFault}
+use Rattle.input_lines.specs.declared.line_fault.LineFault.TheVariants as lines
 use Rattle.table_file.specs.declared.fault.TableFault.{TableFault}
 use Rattle.table_file.specs.declared.fault.TableFault.TheVariants as faults
-use Rattle.qsr_top.specs.declared.end.End.{End}
-use Rattle.qsr_top.specs.declared.end.End.TheVariants as ends
+use Rattle.row_script.specs.declared.end.End.{End}
+use Rattle.row_script.specs.declared.end.End.TheVariants as ends
 use Rattle.qsr_top.specs.declared.told.Told.{Told}
 use Rattle.qsr_top.specs.declared.told.Told.TheVariants.{Created, Loaded, Exists, RowTooWide, CatalogueFull, NoTable, BadField, TableFull, BadLine, NotStore, DiskFault, SourceFault, NoMemory}
-use Rattle.qsr_top.specs.Ends.{end_text}
+use Rattle.row_script.specs.Ends.{end_text}
 
 -- its line, of a command on the table of this name
 abbrev pub told_text : List ℕ → Told → List ℕ
@@ -73,7 +75,7 @@ IsToldOr name told end given given' faults faults' =
     IsTold (told_text name told) (told_end told) end given given' faults faults'
     ⊎ (TakesMemory told × IsTold (end_text ends.NoMemory) ends.NoMemory end given given' faults faults')
 
--- what is told of a fault of the store that is opened · of a call on its tables
+-- what is told of a fault of the store that is opened · of a call on its tables · of an input that isn't read as one line
 abbrev pub told_of_opening : StoreFault → Told
 told_of_opening (stores.TooSmall need have) = DiskFault
 told_of_opening (stores.NotStore page) = NotStore page
@@ -89,6 +91,11 @@ told_of_fault faults.TableFull = TableFull
 told_of_fault (faults.NotStore page) = NotStore page
 told_of_fault faults.Failed = DiskFault
 told_of_fault faults.Memory = NoMemory
+
+abbrev pub told_of_line : LineFault → Told
+told_of_line (lines.BadLine number) = BadLine number
+told_of_line lines.Failed = SourceFault
+told_of_line lines.Memory = NoMemory
 
 -- the count of faults of the disk or the source rose by one where its fault is told, and else each stood
 abbrev pub ToldCause : Told → ℕ → ℕ → ℕ → ℕ → Type 0

@@ -2,9 +2,9 @@
 use Rattle.std.specs.Prelude.{◌≡◌, ◌⊎◌, ℕ, List, Option}
 use Rattle.std.specs.Io.KnownBytes.{Appends}
 use Rattle.qsr_io.specs.Given.{GivesFront}
-use Rattle.qsr_top.specs.declared.end.End.{End}
-use Rattle.qsr_top.specs.declared.end.End.TheVariants.{SinkFault}
-use Rattle.qsr_top.specs.Ends.{end_text, status_of}
+use Rattle.row_script.specs.declared.end.End.{End}
+use Rattle.row_script.specs.declared.end.End.TheVariants.{SinkFault}
+use Rattle.row_script.specs.Ends.{end_text, status_of}
 
 -- An end is said: its line was written and its status is answered, or the sink failed within the line.
 abbrev pub Says : End → ℕ → Option (List ℕ) → Option (List ℕ) → Type 0

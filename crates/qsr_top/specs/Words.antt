@@ -1,8 +1,8 @@
 -- The words of the command line: FILE, the command, and what the command takes.
-use Rattle.std.specs.Prelude.{⊤, ℕ, Bool, false, not, ◌&&◌, ◌||◌, ◌==◌, nat_le, List, [], ◌∷◌, length, drop, slice_index_or, Option, Some, None, codes, nat_eq, if◌then◌else◌}
+use Rattle.std.specs.Prelude.{◌≡◌, ◌≤◌, ⊤, ℕ, Bool, false, not, ◌&&◌, ◌||◌, ◌==◌, nat_le, List, [], ◌∷◌, length, drop, Option, Some, None, Result, IfOk, codes, nat_eq, if◌then◌else◌}
 use Rattle.std.specs.Char.{is_ascii_digit, is_ascii_lowercase}
 use Rattle.std.specs.Cmp.Lexicographic.{pointwise}
-use Rattle.std.specs.List.{list_all, starts_with}
+use Rattle.std.specs.List.{AllByRecursion, list_all, starts_with}
 use Rattle.std.specs.Option.{option_and_then, option_map}
 use Rattle.page_store.specs.PageOrder.{AreSizes}
 use Rattle.page_store.specs.declared.pages.Sizes.{Sizes}
@@ -11,12 +11,22 @@ use Rattle.qsr_value.specs.declared.kind.ColKind.TheVariants.{Int, Text}
 use Rattle.qsr_value.specs.declared.schema.Column.{Column}
 use Rattle.qsr_top.specs.declared.command.Command.{Command}
 use Rattle.qsr_top.specs.declared.command.Command.TheVariants.{Script, Format, Create, Load, Explain}
-use Rattle.qsr_top.specs.declared.command.TheConstants.{MAX_COLUMNS, MAX_PAGES, MAX_TEXT}
-use Rattle.qsr_top.specs.Number.{count_of}
+use Rattle.qsr_value.specs.declared.limits.TheConstants.{MAX_AREA_PAGES, MAX_COLUMNS, MAX_TEXT}
+use Rattle.qsr_value.specs.Number.{count_of}
+use Rattle.qsr_value.specs.declared.failure.Memory.{Memory}
+use Rattle.table_file.specs.CatalogueBytes.{IsColumn, IsName}
+
+-- A command, with what it takes: sizes, the name of a table, its columns.
+pub data NamedCommand : Type 0 where
+  script : NamedCommand
+  format : Sizes → NamedCommand
+  create : List ℕ → List Column → NamedCommand
+  load : List ℕ → NamedCommand
+  explain : NamedCommand
 
 -- how many pages an area is to have: a number of 1 to 65,536
 abbrev pub pages_of : List ℕ → Option ℕ
-pages_of word = option_and_then (λ n. if nat_le 1 n && nat_le n MAX_PAGES then Some n else None) (count_of word)
+pages_of word = option_and_then (λ n. if nat_le 1 n && nat_le n MAX_AREA_PAGES then Some n else None) (count_of word)
 
 -- the five numbers of `format`
 abbrev pub sizes_of : List ℕ → List ℕ → List ℕ → List ℕ → List ℕ → Option Sizes
@@ -26,18 +36,18 @@ sizes_of table index out image spill =
     (pages_of spill)) (pages_of image)) (pages_of out)) (pages_of index)) (pages_of table)
 
 -- `script`
-abbrev pub script_of : List (List ℕ) → Option Command
-script_of [] = Some Script
+abbrev pub script_of : List (List ℕ) → Option NamedCommand
+script_of [] = Some script
 script_of (word ∷ words) = None
 
 -- `format T X O I S`
-abbrev pub format_of : List (List ℕ) → Option Command
+abbrev pub format_of : List (List ℕ) → Option NamedCommand
 format_of [] = None
 format_of (table ∷ []) = None
 format_of (table ∷ index ∷ []) = None
 format_of (table ∷ index ∷ out ∷ []) = None
 format_of (table ∷ index ∷ out ∷ image ∷ []) = None
-format_of (table ∷ index ∷ out ∷ image ∷ spill ∷ []) = option_map Format (sizes_of table index out image spill)
+format_of (table ∷ index ∷ out ∷ image ∷ spill ∷ []) = option_map format (sizes_of table index out image spill)
 format_of (table ∷ index ∷ out ∷ image ∷ spill ∷ further ∷ words) = None
 
 -- a name: 1 to 16 small letters, digits and `_`, of which the first is no digit
@@ -73,35 +83,27 @@ columns_of (name ∷ []) = None
 columns_of (name ∷ kind ∷ words) = column_before name (column_kind name kind) (columns_of words)
 
 -- 1 to 16 of them
-abbrev pub are_columns : Option (List Column) → Bool
-are_columns None = false
-are_columns (Some columns) = nat_le 1 (length columns) && nat_le (length columns) MAX_COLUMNS
+abbrev pub some_columns : List Column → Option (List Column)
+some_columns columns = if nat_le 1 (length columns) && nat_le (length columns) MAX_COLUMNS then Some columns else None
 
 -- `create NAME C K ..`
-abbrev pub create_of : List (List ℕ) → Option Command
+abbrev pub create_of : List (List ℕ) → Option NamedCommand
 create_of [] = None
-create_of (name ∷ columns) = if is_name name && are_columns (columns_of columns) then Some Create else None
+create_of (name ∷ words) = if is_name name then option_map (create name) (option_and_then some_columns (columns_of words)) else None
 
 -- `load NAME`
-abbrev pub load_of : List (List ℕ) → Option Command
+abbrev pub load_of : List (List ℕ) → Option NamedCommand
 load_of [] = None
-load_of (name ∷ []) = if is_name name then Some Load else None
+load_of (name ∷ []) = if is_name name then Some (load name) else None
 load_of (name ∷ word ∷ words) = None
 
 -- `explain`
-abbrev pub explain_of : List (List ℕ) → Option Command
-explain_of [] = Some Explain
+abbrev pub explain_of : List (List ℕ) → Option NamedCommand
+explain_of [] = Some explain
 explain_of (word ∷ words) = None
 
--- the table that `create` and `load` name, and the columns that `create` names, behind FILE and the command
-abbrev pub named_table : List (List ℕ) → List ℕ
-named_table words = slice_index_or words 2 []
-
-abbrev pub named_columns : List (List ℕ) → Option (List Column)
-named_columns words = columns_of (drop 3 words)
-
 -- a command and what it takes
-abbrev pub command_with : List ℕ → List (List ℕ) → Option Command
+abbrev pub command_with : List ℕ → List (List ℕ) → Option NamedCommand
 command_with command arguments =
     if pointwise nat_eq command (codes "script") then script_of arguments
     else (if pointwise nat_eq command (codes "format") then format_of arguments
@@ -110,15 +112,41 @@ command_with command arguments =
     else (if pointwise nat_eq command (codes "explain") then explain_of arguments else None))))
 
 -- the command that the words name; none where they are not of the table of commands
-abbrev pub command_of : List (List ℕ) → Option Command
+abbrev pub command_of : List (List ℕ) → Option NamedCommand
 command_of [] = None
 command_of (file ∷ []) = None
 command_of (file ∷ command ∷ arguments) = command_with command arguments
 
--- what a command asks of its numbers
+-- ---- what is read of them
+
+-- these columns, or that there was no memory for them
+abbrev pub AreRead : List Column → Result (List Column) Memory → Type 0
+AreRead columns read = IfOk read (λ them. them ≡ columns)
+
+-- the columns that words are, or that they are none
+abbrev pub ReadsColumns : Option (List Column) → Option (Result (List Column) Memory) → Type 0
+ReadsColumns None None = ⊤
+ReadsColumns None (Some read) = ⊥
+ReadsColumns (Some columns) None = ⊥
+ReadsColumns (Some columns) (Some read) = AreRead columns read
+
+-- the command that words name, whose columns are read, or that they name none
+abbrev pub ReadsCommand : Option NamedCommand → Option Command → Type 0
+ReadsCommand named None = named ≡ None
+ReadsCommand named (Some Script) = named ≡ Some script
+ReadsCommand named (Some (Format sizes)) = named ≡ Some (format sizes)
+ReadsCommand named (Some (Create name read)) = (columns : List Column) × (named ≡ Some (create name.now columns)) × AreRead columns read
+ReadsCommand named (Some (Load name)) = named ≡ Some (load name.now)
+ReadsCommand named (Some Explain) = named ≡ Some explain
+
+-- 1 to 16 columns that a table may have
+abbrev pub AreColumns : List Column → Type 0
+AreColumns columns = (1 ≤ length columns) × (length columns ≤ 16) × AllByRecursion IsColumn columns
+
+-- what a command asks of its numbers, its name and its columns
 abbrev pub IsCommand : Command → Type 0
 IsCommand Script = ⊤
 IsCommand (Format sizes) = AreSizes sizes
-IsCommand Create = ⊤
-IsCommand Load = ⊤
+IsCommand (Create name read) = IsName name.now × IfOk read AreColumns
+IsCommand (Load name) = ⊤
 IsCommand Explain = ⊤

@@ -1,63 +1,62 @@
-ghost use Rattle.std.specs.Prelude.{◌≡◌, ◌*◌, ◌≤◌, ◌++◌, List, length, map, Some, IfOk, IfSome, OnOk};
+ghost use Rattle.std.specs.Prelude.{◌≤◌, ◌++◌, ◌≡◌, [], ◌∷◌, List, map, IfOk, IfSome};
 ghost use Rattle.std.specs.String.{string_bytes};
 ghost use Rattle.std.specs.List.{list_all};
-ghost use Rattle.std.specs.Option.{option_map};
+ghost use Rattle.std.specs.Option.{option_and_then, option_map};
 ghost use Rattle.qsr_value.specs.declared.schema.Column.{Column as ColumnData};
-ghost use Rattle.qsr_top.specs.declared.command.TheConstants.{MAX_COLUMNS, MAX_PAGES};
-ghost use Rattle.qsr_top.specs.Words.{IsCommand, are_columns, column_kind, columns_of, command_of, command_with, create_of, explain_of, format_of, is_name, is_name_byte, kind_of, load_of, pages_of, script_of, text_kind};
+ghost use Rattle.qsr_value.specs.declared.limits.TheConstants.{MAX_AREA_PAGES};
+ghost use Rattle.qsr_top.specs.Words.{AreColumns, AreRead, IsCommand, ReadsCommand, ReadsColumns, column_kind, columns_of, command_of, command_with, create_of, explain_of, format_of, is_name, is_name_byte, kind_of, load_of, pages_of, script_of, some_columns, text_kind};
 
-use crate::number::count_of;
 use page_store::Sizes;
-use qsr_value::{ColKind, Column, Memory, Schema, Txt};
+use qsr_value::{
+    ColKind, Column, MAX_AREA_PAGES, MAX_COLUMNS, MAX_NAME, MAX_TEXT, Memory, Schema, Txt, count_of,
+};
 use std::alloc::Global;
 
-/// How many pages an area has at most.
-pub const MAX_PAGES: u64 = 65_536;
-
-/// How many bytes a name has at most.
-pub const MAX_NAME: usize = 16;
-
-/// How many columns a table has at most.
-pub const MAX_COLUMNS: usize = 16;
-
-/// How many bytes a text has at most.
-pub const MAX_TEXT: u64 = 998;
+/// How many pages an area has at most, beside a number that was read.
+const MAX_PAGES: u64 = MAX_AREA_PAGES as u64;
 
 /// What the program is asked to do.
-#[derive(Clone, Copy)]
-pub enum Command {
+#[derive(Drop)]
+pub enum Command<'a> {
     /// Reads the lines of a script from the input and answers each.
     Script,
     /// Writes an empty store with areas of these sizes.
-    Format { sizes: Sizes },
-    /// Creates a table, of the name and the columns that follow.
-    Create,
-    /// Adds the rows of the input to the table of the name that follows.
-    Load,
+    Format {
+        sizes: Sizes,
+    },
+    /// Creates a table of this name and these columns, for which there may have been no memory.
+    Create {
+        name: &'a str,
+        columns: Result<Schema, Memory>,
+    },
+    /// Adds the rows of the input to the table of this name.
+    Load {
+        name: &'a str,
+    },
     /// Says what comes of the query that the input is.
     Explain,
 }
 
 /// The command that the words name: FILE, which is not read here, then the command and what it takes.
-pub fn command_of(words: &[String]) -> Option<Command>
-    ensures names { result ≡ command_of (map string_bytes words.now) }
-    ensures numbers { IfSome result IsCommand }
+pub fn command_of<'a>(alloc: Global, words: &'a [String]) -> Option<Command<'a>>
+    ensures names { ReadsCommand (command_of (map string_bytes words.now)) result }
+    ensures fits { IfSome result IsCommand }
 {
     match words {
-        [_, command, arguments @ ..] => command_with(command.as_str(), arguments),
+        [_, command, arguments @ ..] => command_with(alloc, command.as_str(), arguments),
         _ => None,
     }
 }
 
 /// A command and what it takes.
-fn command_with(command: &str, arguments: &[String]) -> Option<Command>
-    ensures names { result ≡ command_with command.now (map string_bytes arguments.now) }
-    ensures numbers { IfSome result IsCommand }
+fn command_with<'a>(alloc: Global, command: &str, arguments: &'a [String]) -> Option<Command<'a>>
+    ensures names { ReadsCommand (command_with command.now (map string_bytes arguments.now)) result }
+    ensures fits { IfSome result IsCommand }
 {
     match command {
         "script" => script_of(arguments),
         "format" => format_of(arguments),
-        "create" => create_of(arguments),
+        "create" => create_of(alloc, arguments),
         "load" => load_of(arguments),
         "explain" => explain_of(arguments),
         _ => None,
@@ -65,9 +64,9 @@ fn command_with(command: &str, arguments: &[String]) -> Option<Command>
 }
 
 /// `script`, which takes nothing.
-fn script_of(arguments: &[String]) -> Option<Command>
-    ensures names { result ≡ script_of (map string_bytes arguments.now) }
-    ensures numbers { IfSome result IsCommand }
+fn script_of<'a>(arguments: &'a [String]) -> Option<Command<'a>>
+    ensures names { ReadsCommand (script_of (map string_bytes arguments.now)) result }
+    ensures fits { IfSome result IsCommand }
 {
     if arguments.is_empty() {
         Some(Command::Script)
@@ -77,9 +76,9 @@ fn script_of(arguments: &[String]) -> Option<Command>
 }
 
 /// `format`, which takes how many pages each area of a kind is to have.
-fn format_of(arguments: &[String]) -> Option<Command>
-    ensures names { result ≡ format_of (map string_bytes arguments.now) }
-    ensures numbers { IfSome result IsCommand }
+fn format_of<'a>(arguments: &'a [String]) -> Option<Command<'a>>
+    ensures names { ReadsCommand (format_of (map string_bytes arguments.now)) result }
+    ensures fits { IfSome result IsCommand }
 {
     match arguments {
         [table, index, out, image, spill] => {
@@ -102,33 +101,39 @@ fn format_of(arguments: &[String]) -> Option<Command>
 }
 
 /// `create`, which takes the name of a table, and a name and a kind for each of its columns.
-fn create_of(arguments: &[String]) -> Option<Command>
-    ensures names { result ≡ create_of (map string_bytes arguments.now) }
-    ensures numbers { IfSome result IsCommand }
+fn create_of<'a>(alloc: Global, arguments: &'a [String]) -> Option<Command<'a>>
+    ensures names { ReadsCommand (create_of (map string_bytes arguments.now)) result }
+    ensures fits { IfSome result IsCommand }
 {
     match arguments {
-        [name, columns @ ..] if is_name(name.as_str()) && are_columns(columns) => Some(
-            Command::Create,
-        ),
+        [name, columns @ ..] if is_name(name.as_str()) => {
+            let columns = some_columns(alloc, columns)?;
+            Some(Command::Create {
+                name: name.as_str(),
+                columns,
+            })
+        }
         _ => None,
     }
 }
 
 /// `load`, which takes the name of a table.
-fn load_of(arguments: &[String]) -> Option<Command>
-    ensures names { result ≡ load_of (map string_bytes arguments.now) }
-    ensures numbers { IfSome result IsCommand }
+fn load_of<'a>(arguments: &'a [String]) -> Option<Command<'a>>
+    ensures names { ReadsCommand (load_of (map string_bytes arguments.now)) result }
+    ensures fits { IfSome result IsCommand }
 {
     match arguments {
-        [name] if is_name(name.as_str()) => Some(Command::Load),
+        [name] if is_name(name.as_str()) => Some(Command::Load {
+            name: name.as_str(),
+        }),
         _ => None,
     }
 }
 
 /// `explain`, which takes nothing.
-fn explain_of(arguments: &[String]) -> Option<Command>
-    ensures names { result ≡ explain_of (map string_bytes arguments.now) }
-    ensures numbers { IfSome result IsCommand }
+fn explain_of<'a>(arguments: &'a [String]) -> Option<Command<'a>>
+    ensures names { ReadsCommand (explain_of (map string_bytes arguments.now)) result }
+    ensures fits { IfSome result IsCommand }
 {
     match arguments {
         [] => Some(Command::Explain),
@@ -160,32 +165,52 @@ fn is_name_byte(byte: u8) -> bool
     byte.is_ascii_lowercase() || byte.is_ascii_digit() || byte == b'_'
 }
 
-/// Whether words are 1 to 16 columns, each a name and a kind.
-fn are_columns(words: &[String]) -> bool
-    ensures { result ≡ are_columns (columns_of (map string_bytes words.now)) }
+/// The 1 to 16 columns that words are, each a name and a kind. None where the words are none, whatever memory there is.
+fn some_columns(alloc: Global, words: &[String]) -> Option<Result<Schema, Memory>>
+    ensures names { ReadsColumns (option_and_then some_columns (columns_of (map string_bytes words.now))) result }
+    ensures fits { IfSome result (λ read. IfOk read AreColumns) }
 {
-    // So the count below goes down 16 columns at most.
-    if words.len() > 2 * MAX_COLUMNS {
-        return false;
+    // So the words below are 16 columns at most.
+    if words.is_empty() || words.len() > 2 * MAX_COLUMNS {
+        return None;
     }
-    match count_columns(words) {
-        Some(count) => 1 <= count,
-        None => false,
-    }
+    columns_behind(alloc, Ok(Schema::new(alloc)), words)
 }
 
-/// How many columns words are, each a name and a kind.
-fn count_columns(words: &[String]) -> Option<usize>
-    requires { length words.now ≤ 2 * MAX_COLUMNS }
-    ensures count { result ≡ option_map length (columns_of (map string_bytes words.now)) }
-    ensures few { IfSome result (λ count. 2 * count ≡ length words.now) }
+/// The columns that words are, behind these. Where there is no memory for one the words behind it are read all the same.
+fn columns_behind(
+    alloc: Global,
+    columns: Result<Schema, Memory>,
+    words: &[String],
+) -> Option<Result<Schema, Memory>>
+    ensures { (front : List ColumnData) → AreRead front columns → ReadsColumns (option_map (λ more. front ++ more) (columns_of (map string_bytes words.now))) result }
 {
     let [name, kind, rest @ ..] = words else {
-        return if words.is_empty() { Some(0) } else { None };
+        return if words.is_empty() {
+            Some(columns)
+        } else {
+            None
+        };
     };
-    let _kind = column_kind(name.as_str(), kind.as_str())?;
-    let count = count_columns(rest)?;
-    Some(1 + count)
+    let name = name.as_str();
+    let kind = column_kind(name, kind.as_str())?;
+    let columns = with_column(alloc, columns, name, kind);
+    columns_behind(alloc, columns, rest)
+}
+
+/// Columns and one more, where there is memory for it and was for them.
+fn with_column(
+    alloc: Global,
+    columns: Result<Schema, Memory>,
+    name: &str,
+    kind: ColKind,
+) -> Result<Schema, Memory>
+    ensures { (front : List ColumnData) → AreRead front columns → AreRead (front ++ record { name = name.now; kind = kind } ∷ []) result }
+{
+    let mut columns = columns?;
+    let name = Txt::from_str(alloc, name)?;
+    columns.push(Column { name, kind })?;
+    Ok(columns)
 }
 
 /// What the values of a column of this name are to be. None where the name is none.
@@ -215,34 +240,10 @@ fn text_kind(max: u64) -> Option<ColKind>
     }
 }
 
-/// The columns that words are.
-pub fn schema_of(alloc: Global, words: &[String]) -> Result<Schema, Memory>
-    ensures { IfOk result (λ schema. (columns : List ColumnData) → columns_of (map string_bytes words.now) ≡ Some columns → schema ≡ columns) }
-{
-    let mut schema = Schema::new(alloc);
-    push_columns(alloc, words, &mut schema)?;
-    Ok(schema)
-}
-
-/// Adds the columns that words are.
-fn push_columns(alloc: Global, words: &[String], schema: &mut Schema) -> Result<(), Memory>
-    ensures { OnOk result ((columns : List ColumnData) → columns_of (map string_bytes words.now) ≡ Some columns → schema.new ≡ schema.old ++ columns) }
-{
-    let [name, kind, rest @ ..] = words else {
-        return Ok(());
-    };
-    let Some(kind) = column_kind(name.as_str(), kind.as_str()) else {
-        return Ok(());
-    };
-    let name = Txt::from_str(alloc, name.as_str())?;
-    schema.push(Column { name, kind })?;
-    push_columns(alloc, rest, schema)
-}
-
 /// How many pages an area is to have.
 fn pages_of(word: &str) -> Option<u32>
     ensures number { result ≡ pages_of word.now }
-    ensures within { IfSome result (λ pages. (1 ≤ pages) × (pages ≤ MAX_PAGES)) }
+    ensures within { IfSome result (λ pages. (1 ≤ pages) × (pages ≤ MAX_AREA_PAGES)) }
 {
     match count_of(word.as_bytes()) {
         Some(count @ 1..=MAX_PAGES) => Some(count as u32),

@@ -1,7 +1,7 @@
 ghost use Rattle.std.specs.Prelude.{◌≡◌, ◌<◌, ◌-◌, ◌^◌, IfOk, Some, length};
-ghost use Rattle.qsr_top.specs.Explaining.{AnswersQuery, AnswersText, IsAnswer, answer_text, placed};
+ghost use Rattle.qsr_top.specs.Explain.{AnswersQuery, AnswersText, IsQueryAnswer, answer_text, placed};
 ghost use Rattle.sql_bind.specs.Checks as binder;
-ghost use Rattle.sql_front.specs.Reads.{tells};
+ghost use Rattle.sql_front.specs.Reads.{parse_tells};
 
 use qsr_value::Memory;
 use sql_bind::{BindFault, Names, bind};
@@ -38,7 +38,7 @@ pub fn answer_to(alloc: Global, text: &str, tables: &Names) -> Result<QueryAnswe
 
 /// What is answered to a text that isn't read as a query.
 fn answer_to_misread(fault: ParseFault) -> Result<QueryAnswer, Memory>
-    ensures { IfOk result (IsAnswer (λ refusal. tells fault ≡ Some refusal) (λ refusal. ⊥) ⊥) }
+    ensures { IfOk result (IsQueryAnswer (λ refusal. parse_tells fault ≡ Some refusal) (λ refusal. ⊥) ⊥) }
 {
     match fault {
         ParseFault::Syntax { at } => Ok(QueryAnswer::Syntax { at }),
@@ -59,7 +59,7 @@ fn answer_to_query(alloc: Global, query: &Query, tables: &Names) -> Result<Query
 
 /// What is answered to a query that isn't bound.
 fn answer_to_unbound(fault: BindFault) -> Result<QueryAnswer, Memory>
-    ensures { IfOk result (IsAnswer (λ refusal. ⊥) (λ refusal. binder.tells fault ≡ Some refusal) ⊥) }
+    ensures { IfOk result (IsQueryAnswer (λ refusal. ⊥) (λ refusal. binder.bind_tells fault ≡ Some refusal) ⊥) }
 {
     match fault {
         BindFault::NoTable { name, at } => Ok(QueryAnswer::NoTable { name, at }),

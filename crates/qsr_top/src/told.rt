@@ -1,12 +1,13 @@
 ghost use Rattle.std.specs.Prelude.{◌≡◌, [], IfOk, OnErr};
 ghost use Rattle.std.specs.String.{string_bytes};
-ghost use Rattle.qsr_top.specs.Ends.{end_text};
-ghost use Rattle.qsr_top.specs.Told.{IsTold, IsToldOr, told_end, told_of_fault, told_of_opening, told_text};
+ghost use Rattle.row_script.specs.Ends.{end_text};
+ghost use Rattle.qsr_top.specs.Told.{IsTold, IsToldOr, told_end, told_of_fault, told_of_line, told_of_opening, told_text};
 
-use crate::end::End;
+use input_lines::LineFault;
 use page_store::StoreFault;
 use qsr_io::{Failed, Sink, put_all};
 use qsr_value::Memory;
+use row_script::End;
 use std::alloc::{AllocError, Global};
 use table_file::TableFault;
 
@@ -92,6 +93,17 @@ pub fn told_of_fault(fault: TableFault) -> Told
         TableFault::NotStore { page } => Told::NotStore { page },
         TableFault::Failed => Told::DiskFault,
         TableFault::Memory => Told::NoMemory,
+    }
+}
+
+/// What is told of an input that isn't read as one line.
+pub fn told_of_line(fault: LineFault) -> Told
+    ensures { result ≡ told_of_line fault }
+{
+    match fault {
+        LineFault::BadLine { number } => Told::BadLine { number },
+        LineFault::Failed => Told::SourceFault,
+        LineFault::Memory => Told::NoMemory,
     }
 }
 

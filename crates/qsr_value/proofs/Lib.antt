@@ -1,6 +1,7 @@
 pub mod Bytes
 pub mod Encodings
 pub mod Lists
+pub mod NumberLemmas
 pub mod Numbers
 pub mod Orders
 pub mod Readings

@@ -67,7 +67,8 @@ Fits-more [] (w ∷ ws) c v fits of_kind = absurd fits
 Fits-more (d ∷ ds) [] c v fits of_kind = absurd fits
 Fits-more (d ∷ ds) (w ∷ ws) c v fits of_kind = (fits.0, Fits-more ds ws c v fits.1 of_kind)
 
-AreTexts-more : (vs : List Value) (v : Value) → AreTexts vs → IsText v → AreTexts (vs ++ v ∷ [])
+-- one more text behind texts
+pub AreTexts-more : (vs : List Value) (v : Value) → AreTexts vs → IsText v → AreTexts (vs ++ v ∷ [])
 AreTexts-more [] v texts text = (text, tt)
 AreTexts-more (w ∷ ws) v texts text = (texts.0, AreTexts-more ws v texts.1 text)
 

@@ -6,9 +6,9 @@ abbrev pub next_count : ℕ → ℕ
 next_count n = min (n + 1) (2 ^ 64 - 1)
 
 -- the count behind so many more calls
-abbrev pub count_behind : ℕ → ℕ → ℕ
-count_behind zero count = count
-count_behind (suc calls) count = next_count (count_behind calls count)
+abbrev pub count_after : ℕ → ℕ → ℕ
+count_after zero count = count
+count_after (suc calls) count = next_count (count_after calls count)
 
 -- a count rose by one, or stays at the last value of u64
 pub record RoseByOne (old new : ℕ) : Type 0 where
@@ -25,4 +25,4 @@ CountsFault result old new = MatchResult result (λ _. new ≡ old) (λ _. RoseB
 pub record CountsAtMost (most old new : ℕ) : Type 0 where
   pub calls : ℕ
   pub few : calls ≤ most
-  pub exact : new ≡ count_behind calls old
+  pub exact : new ≡ count_after calls old

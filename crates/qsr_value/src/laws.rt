@@ -9,7 +9,7 @@ ghost use Rattle.std.specs.Cmp.{IsTotalOrder};
 ghost use Rattle.std.specs.declared.cmp.Ordering.TheVariants as order;
 
 /// Two laws of the bytes of rows: a row has no more of them than its columns are wide, and rows of one schema with the
-/// same bytes are one row. A call does nothing, and a proof behind it knows the laws.
+/// same bytes are one row. A call does nothing, and a proof after it knows the laws.
 pub const fn encodings_are_exact()
     ensures width { (schema : List RowColumn) (row : List RowValue) → Fits schema row → length (encoded_row schema row) ≤ width_of schema }
     ensures one { (schema : List RowColumn) (row other : List RowValue) → Fits schema row → Fits schema other → encoded_row schema row ≡ encoded_row schema other → row ≡ other }

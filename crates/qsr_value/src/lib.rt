@@ -8,8 +8,10 @@ mod decode;
 mod encode;
 mod failure;
 mod kind;
-mod laws;
+pub mod laws;
+mod limits;
 mod list;
+mod number;
 mod row;
 mod row_sink;
 mod schema;
@@ -21,8 +23,12 @@ pub use decode::{RowFault, decode_row};
 pub use encode::{NoRoom, encode_row};
 pub use failure::{Failed, Memory};
 pub use kind::ColKind;
-pub use laws::{encodings_are_exact, values_are_ordered};
+pub use limits::{
+    MAX_AREA_PAGES, MAX_COLUMNS, MAX_INDEXES, MAX_LINE, MAX_LINES, MAX_NAME, MAX_ROWS, MAX_TABLES,
+    MAX_TEXT, MAX_WIDTH, PAGE_BYTES,
+};
 pub use list::{Bytes, ListOf};
+pub use number::{count_of, number_of};
 pub use row::{Row, Value};
 pub use row_sink::{Outside, RowSink};
 pub use schema::{Column, Schema};

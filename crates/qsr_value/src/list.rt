@@ -1,7 +1,7 @@
-ghost use Rattle.std.specs.Prelude.{◌≡◌, ◌<◌, [], ◌∷◌, ◌++◌, length, slice_get, IfOk, OnOk, OnErr, Some};
+ghost use Rattle.std.specs.Prelude.{◌≡◌, ◌<◌, [], ◌∷◌, ◌++◌, length, slice_get, IfOk, MatchOption, OnOk, OnErr, Some};
+ghost use Rattle.std.specs.Borrow.{sem};
 
 use crate::{Memory, TryCopy};
-use sqlite_items::Items;
 use std::alloc::Global;
 use std::marker::Model;
 
@@ -9,7 +9,7 @@ use std::marker::Model;
 /// of it.
 #[derive(Debug, Drop)]
 pub struct ListOf<T> {
-    items: Items<T>,
+    items: Vec<T>,
 }
 
 /// A list of bytes.
@@ -23,16 +23,18 @@ impl<T> Model for ListOf<T> {
 
     ghost coded = { coded_list T.code };
 
-    ghost view = { λ list. list.items };
+    ghost view = { λ list. list.items.items };
 }
 
 impl<T> ListOf<T> {
+    ghost use Rattle.qsr_value.specs.Lending.{LendsItem};
+
     /// The empty list, which takes no memory.
     pub fn new(alloc: Global) -> ListOf<T>
         ensures { result ≡ [] }
     {
         ListOf {
-            items: Items::new(alloc),
+            items: Vec::new(alloc),
         }
     }
 
@@ -41,9 +43,7 @@ impl<T> ListOf<T> {
         ensures { IfOk result (λ list. list ≡ []) }
     {
         let items = Vec::with_capacity(alloc, items)?;
-        Ok(ListOf {
-            items: Items::from_vec(items),
-        })
+        Ok(ListOf { items })
     }
 
     pub fn len(&self) -> usize
@@ -64,6 +64,22 @@ impl<T> ListOf<T> {
     {
         &self.items.as_slice()[at]
     }
+
+    /// The item at this place, to be set or changed where it stands. It takes no memory.
+    pub fn get_mut(&mut self, at: usize) -> &mut T
+        requires { at < length self.old }
+        ensures value { slice_get self.old at ≡ Some result.now }
+        ensures* writes_back { sem 𝓛 (LendsItem T.row self.entry at result) }
+    {
+        &mut self.items[at]
+    }
+
+    /// Takes the last item away.
+    pub fn pop(&mut self) -> Option<T>
+        ensures { MatchOption result ((self.old ≡ []) × (self.new ≡ [])) (λ last. self.old ≡ self.new ++ last ∷ []) }
+    {
+        self.items.pop()
+    }
 }
 
 impl<T: Drop> ListOf<T> {
@@ -81,7 +97,7 @@ impl<T: Copy> ListOf<T> {
     pub fn from_slice(alloc: Global, items: &[T]) -> Result<ListOf<T>, Memory>
         ensures { IfOk result (λ list. list ≡ items.now) }
     {
-        let items = Items::from_slice(alloc, items)?;
+        let items = Vec::from_slice(alloc, items)?;
         Ok(ListOf { items })
     }
 }

@@ -2,18 +2,15 @@
 use Rattle.std.proofs.Common.{◌≡◌, ℕ, ◌+◌, ◌<◌, ◌≤◌, List, [], ◌∷◌, ◌++◌, length, take, drop, refl, sym, ap, ◌∙◌, subst, inl, inr, ⊎_elim, arith, length-append, length-drop}
 use Rattle.std.proofs.Math.Seq.{drop-append_seam, take-add, take-append_seam}
 use Rattle.std.proofs.lemmas.List.{drop-drop, drop-take, take-take}
-use Rattle.byteorder.specs.Endian.{little_bytes, little_number}
-use Rattle.byteorder.specs.Numbers.{length-bytes_low_first, little_from-take, little_number-reads_back}
+use Rattle.byteorder.specs.Endian.{little_number}
+use Rattle.byteorder.specs.Numbers.{little_from-take, little_number-reads_back}
 use Rattle.row_page.specs.Framed.{framed, rows_bytes}
 use Rattle.row_page.specs.Pages.{EndsBehind, IsAtFront, IsNoFront, IsPage}
+use Rattle.row_page.proofs.Framing.{length-framed}
 
 -- how many bytes rows take that are bytes themselves
 abbrev pub size_of : List (List ℕ) → ℕ
 size_of rows = length (rows_bytes (λ row. row) rows)
-
--- bytes behind their length are two more
-pub length-framed : (bytes : List ℕ) → length (framed bytes) ≡ 2 + length bytes
-length-framed bytes = omega (arith, length-append (little_bytes 2 (length bytes)) bytes, length-bytes_low_first 0 2 (length bytes))
 
 -- how many bytes a row and others behind it take
 pub size-cons : (row : List ℕ) (rest : List (List ℕ)) → size_of (row ∷ rest) ≡ length (framed row) + size_of rest

@@ -53,28 +53,28 @@ abbrev pub no_pages : {A : Type 0} → Pages A
 no_pages = record { full = []; last = [] }
 
 -- how many pages there are: none of no rows
-abbrev pub count_of : {A : Type 0} → List (List A) → List A → ℕ
-count_of full [] = length full
-count_of full (row ∷ rows) = length full + 1
+abbrev pub page_count_of : {A : Type 0} → List (List A) → List A → ℕ
+page_count_of full [] = length full
+page_count_of full (row ∷ rows) = length full + 1
 
 abbrev pub page_count : {A : Type 0} → Pages A → ℕ
-page_count pages = count_of pages.full pages.last
+page_count pages = page_count_of pages.full pages.last
 
 -- how many bytes the rows of the last page take
 abbrev pub last_end : {A : Type 0} → (A → List ℕ) → Pages A → ℕ
 last_end encoded pages = length (rows_bytes encoded pages.last)
 
 -- a row goes on the last page where it fits, else on the next
-abbrev pub with_row : {A : Type 0} → (A → List ℕ) → ℕ → Pages A → A → Pages A
-with_row encoded room pages row =
+abbrev pub pages_with_row : {A : Type 0} → (A → List ℕ) → ℕ → Pages A → A → Pages A
+pages_with_row encoded room pages row =
     if nat_le (last_end encoded pages + length (framed (encoded row))) room
     then record { full = pages.full; last = pages.last ++ row ∷ [] }
     else record { full = pages.full ++ pages.last ∷ []; last = row ∷ [] }
 
-abbrev pub with_rows : {A : Type 0} → (A → List ℕ) → ℕ → Pages A → List A → Pages A
-with_rows encoded room pages [] = pages
-with_rows encoded room pages (row ∷ rows) = with_rows encoded room (with_row encoded room pages row) rows
+abbrev pub pages_with_rows : {A : Type 0} → (A → List ℕ) → ℕ → Pages A → List A → Pages A
+pages_with_rows encoded room pages [] = pages
+pages_with_rows encoded room pages (row ∷ rows) = pages_with_rows encoded room (pages_with_row encoded room pages row) rows
 
 -- The pages that rows take, of so many bytes each.
-abbrev pub pages_of : {A : Type 0} → (A → List ℕ) → ℕ → List A → Pages A
-pages_of encoded room rows = with_rows encoded room no_pages rows
+abbrev pub pages_of_rows : {A : Type 0} → (A → List ℕ) → ℕ → List A → Pages A
+pages_of_rows encoded room rows = pages_with_rows encoded room no_pages rows

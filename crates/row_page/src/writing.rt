@@ -9,7 +9,7 @@ ghost use Rattle.row_page.specs.Pages.{page_end};
 
 use crate::reading::LENGTH_BYTES;
 use byteorder::{ByteOrder, LittleEndian};
-use qsr_value::{NoRoom, Row, Schema, encode_row, encodings_are_exact};
+use qsr_value::{NoRoom, Row, Schema, encode_row, laws};
 
 /// Puts a row on a page from this byte on, its length before it, and answers where it ends. A row that doesn't fit leaves the
 /// page as it was.
@@ -25,7 +25,8 @@ pub fn put_row(page: &mut [u8], at: usize, row: &Row, schema: &Schema) -> Result
     ensures long { length page.new ≡ length page.old }
     ensures texts { AreTexts row.now }
 {
-    encodings_are_exact();
+    // For the proof: a row's bytes are no more than its columns are wide, so that two bytes can count them.
+    laws::encodings_are_exact();
     let row_at = at + LENGTH_BYTES;
     let end = encode_row(row, schema, page, row_at)?;
     LittleEndian::write_u16(&mut page[at..], (end - row_at) as u16);

@@ -2,10 +2,9 @@
 
 use crate::block::{FILE, push_words};
 use crate::device::Device;
-use crate::notes::{Place, Variant, expect_bytes};
 use crate::run::{Given, Outcome, run};
 use anyhow::{Context, Result};
-use case_kit::{Report, push_piece};
+use case_kit::{Place, Report, Variant, expect_bytes, push_piece};
 use qsr_value::Memory;
 use std::alloc::Global;
 

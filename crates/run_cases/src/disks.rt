@@ -1,10 +1,9 @@
 //! The disk that the runs of a case are made over, and those that are kept under names.
 
-use crate::bytes_at::read_bytes_at;
 use crate::device::Device;
 use crate::media::Media;
 use anyhow::{Context, Result, bail, ensure};
-use case_kit::ALL_CALLS;
+use case_kit::{ALL_CALLS, read_bytes_at};
 use disk_model::{FileDisk, MemDisk, Pick};
 use std::alloc::Global;
 use std::fs;

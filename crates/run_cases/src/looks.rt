@@ -2,12 +2,12 @@
 
 use crate::asks;
 use crate::block::{Block, Line};
-use crate::bytes_at::{BytesAt, read_bytes_at};
 use crate::device::Device;
-use crate::notes::{Place, Variant, expect_bytes, expect_number};
 use crate::run::Outcome;
 use anyhow::{Context, Result, bail, ensure};
-use case_kit::{ALL_CALLS, FILLS, Report};
+use case_kit::{
+    ALL_CALLS, BytesAt, FILLS, Place, Report, Variant, expect_bytes, expect_number, read_bytes_at,
+};
 use disk_model::{Disk, Pick};
 use std::alloc::Global;
 

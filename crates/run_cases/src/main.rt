@@ -4,13 +4,11 @@
 
 mod asks;
 mod block;
-mod bytes_at;
 mod cases;
 mod device;
 mod disks;
 mod looks;
 mod media;
-mod notes;
 mod run;
 mod source;
 mod variants;

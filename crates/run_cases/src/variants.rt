@@ -5,10 +5,9 @@ use crate::asks::asked;
 use crate::block::{Block, Line};
 use crate::device::Device;
 use crate::looks::{expect_asks, expect_said, look_at};
-use crate::notes::{Place, Variant, expect_number, note};
 use crate::run::{Given, run};
 use anyhow::{Context, Result, bail, ensure};
-use case_kit::{ALL_CALLS, FILLS, Report};
+use case_kit::{ALL_CALLS, FILLS, Place, Report, Variant, expect_number, note};
 use disk_model::{Disk, Pick};
 use std::alloc::Global;
 

@@ -1,8 +1,8 @@
 -- The first refusal of checks that follow one another.
 use Rattle.std.specs.Prelude.{◌≡◌, List, ◌++◌, Option, Some, None}
 use Rattle.std.proofs.Common.{refl, ap, ◌∙◌}
-use Rattle.sql_words.proofs.Checking.{first_of_both}
-use Rattle.sql_words.specs.Checks.{Check, first_refusal, or_later, check_at_fault}
+use Rattle.grammar_laws.proofs.Checking.{first_of_both}
+use Rattle.grammar_laws.specs.Checks.{Check, first_refusal, or_later, check_at_fault}
 
 -- behind checks that refuse nothing
 pub passed : {Refusal : Type 0} (xs ys : List (Check Refusal)) → first_refusal xs ≡ None → first_refusal (xs ++ ys) ≡ first_refusal ys

@@ -9,12 +9,12 @@ use Rattle.std.proofs.Math.Nat.{mod-eq_of_lt}
 use Rattle.std.proofs.lemmas.Int.{wrapping_neg_is, SFits-int_wrap, int_wrap-sub_right}
 use Rattle.sql_bind.specs.Bound.{compared, signed_number, operand_of, bound_unit}
 use Rattle.sql_bind.specs.Checks.{unit_checks, side_checks, refuse_if, differ, is_text_operand}
-use Rattle.sql_bind.specs.Names.{Scoped, Refusal, TypeClash}
+use Rattle.sql_bind.specs.Names.{Scoped, BindRefusal, TypeClash}
 use Rattle.sql_bind.specs.declared.bound.Operand.{Operand}
 use Rattle.sql_front.specs.Tree.{Side, compare}
 use Rattle.sql_front.specs.declared.words.Comparison.{Comparison}
 use Rattle.sql_bind.proofs.CheckLemmas.{passed, refused}
-use Rattle.sql_words.specs.Checks.{Check, first_refusal, check_at_fault}
+use Rattle.grammar_laws.specs.Checks.{Check, first_refusal, check_at_fault}
 
 -- ---- numbers
 
@@ -39,19 +39,19 @@ negative_number_is n small = negative_is w128 n small
 
 -- ---- lists of checks
 
-only_check : (z : Check Refusal) → first_refusal (z ∷ []) ≡ z
+only_check : (z : Check BindRefusal) → first_refusal (z ∷ []) ≡ z
 only_check None = refl
 only_check (Some told) = refl
 
-first_of_two : (xs ys zs : List (Check Refusal)) (told : Option Refusal) → first_refusal xs ≡ check_at_fault (first_refusal xs) told
+first_of_two : (xs ys zs : List (Check BindRefusal)) (told : Option BindRefusal) → first_refusal xs ≡ check_at_fault (first_refusal xs) told
     → first_refusal (xs ++ ys ++ zs) ≡ check_at_fault (first_refusal (xs ++ ys ++ zs)) told
 first_of_two xs ys zs told same = refused (xs ++ ys) zs told (refused xs ys told same)
 
-second_of_two : (xs ys zs : List (Check Refusal)) (told : Option Refusal) → first_refusal xs ≡ None → first_refusal ys ≡ check_at_fault (first_refusal ys) told
+second_of_two : (xs ys zs : List (Check BindRefusal)) (told : Option BindRefusal) → first_refusal xs ≡ None → first_refusal ys ≡ check_at_fault (first_refusal ys) told
     → first_refusal (xs ++ ys ++ zs) ≡ check_at_fault (first_refusal (xs ++ ys ++ zs)) told
 second_of_two xs ys zs told nothing same = refused (xs ++ ys) zs told (rw (passed xs ys nothing) same)
 
-behind_two : (xs ys : List (Check Refusal)) (z : Check Refusal) → first_refusal xs ≡ None → first_refusal ys ≡ None → first_refusal (xs ++ ys ++ z ∷ []) ≡ z
+behind_two : (xs ys : List (Check BindRefusal)) (z : Check BindRefusal) → first_refusal xs ≡ None → first_refusal ys ≡ None → first_refusal (xs ++ ys ++ z ∷ []) ≡ z
 behind_two xs ys z nothing none_too = passed (xs ++ ys) (z ∷ []) (passed xs ys nothing ∙ none_too) ∙ only_check z
 
 pub compare_bound : (scope : List Scoped) (l : Side) (op : Comparison) (at : ℕ) (r : Side) → bound_unit scope (compare l op at r) ≡ compared (operand_of scope l) op (operand_of scope r)
@@ -61,13 +61,13 @@ compare_bound scope l op at r = refl
 pub ruleset numbers = (number_is, negative_number_is)
 
 -- a comparison is refused where its left side is, else where its right side is, else where one of them is a text and the other is none
-pub left_refused : (scope : List Scoped) (l : Side) (op : Comparison) (at : ℕ) (r : Side) (told : Option Refusal)
+pub left_refused : (scope : List Scoped) (l : Side) (op : Comparison) (at : ℕ) (r : Side) (told : Option BindRefusal)
     → first_refusal (side_checks scope l) ≡ check_at_fault (first_refusal (side_checks scope l)) told
     → first_refusal (unit_checks scope (compare l op at r)) ≡ check_at_fault (first_refusal (unit_checks scope (compare l op at r))) told
 unfolding unit_checks
 left_refused scope l op at r told same = first_of_two (side_checks scope l) (side_checks scope r) _ told same
 
-pub right_refused : (scope : List Scoped) (l : Side) (op : Comparison) (at : ℕ) (r : Side) (told : Option Refusal)
+pub right_refused : (scope : List Scoped) (l : Side) (op : Comparison) (at : ℕ) (r : Side) (told : Option BindRefusal)
     → first_refusal (side_checks scope l) ≡ None → first_refusal (side_checks scope r) ≡ check_at_fault (first_refusal (side_checks scope r)) told
     → first_refusal (unit_checks scope (compare l op at r)) ≡ check_at_fault (first_refusal (unit_checks scope (compare l op at r))) told
 unfolding unit_checks

@@ -9,7 +9,7 @@ use Rattle.std.proofs.lemmas.List.{append-nil}
 use Rattle.sql_bind.specs.Bound.{Condition, Conditions, none, and_then, all_of, any_of, opposite, opposites, bound_unit, bound_conj, bound_units, bound_cond, bound_conjs}
 use Rattle.sql_bind.specs.Checks.{unit_checks, conj_checks, cond_checks}
 use Rattle.sql_bind.specs.Gathered.{OpenConjunction, OpenCondition, alone, units_of, with_unit, conjunction, disjunction, first_read, behind_and, behind_or, finished, next_read}
-use Rattle.sql_bind.specs.Names.{Scoped, Refusal}
+use Rattle.sql_bind.specs.Names.{Scoped, BindRefusal}
 use Rattle.sql_bind.specs.View.{joined_unit}
 use Rattle.sql_front.specs.Tree.{CondTree, ConjTree, UnitTree, group, one_unit, and_unit, one_conj, or_conj}
 use Rattle.sql_front.specs.View.{predicate_tree, cond_tree, negations, one_cond, and_last, or_last, next_unit, more_joined}
@@ -24,7 +24,7 @@ use Rattle.sql_front.specs.declared.tree.Predicate.{Predicate}
 use Rattle.sql_bind.proofs.CheckLemmas.{passed, refused}
 use Rattle.qsr_lists.proofs.Walking.{drop_next}
 use Rattle.sql_front.proofs.Making.{group_tree, comparison_tree, units_are}
-use Rattle.sql_words.specs.Checks.{Check, first_refusal, check_at_fault}
+use Rattle.grammar_laws.specs.Checks.{Check, first_refusal, check_at_fault}
 
 -- ---- a condition as its first unit and the others
 
@@ -64,7 +64,7 @@ group_bound scope c = refl
 -- ---- checks
 
 -- the checks of each of these units
-abbrev pub joined_checks : List Scoped → List Joined → List (Check Refusal)
+abbrev pub joined_checks : List Scoped → List Joined → List (Check BindRefusal)
 joined_checks scope [] = []
 joined_checks scope (j ∷ js) = unit_checks scope (joined_unit j) ++ joined_checks scope js
 
@@ -96,21 +96,21 @@ first_passed scope u js nothing =
     ap first_refusal (more_checks scope (one_cond u) js ∙ ap (λ xs. xs ++ joined_checks scope js) (one_cond_checks scope u))
     ∙ passed (unit_checks scope u) (joined_checks scope js) nothing
 
-pub first_refused : (scope : List Scoped) (u : UnitTree) (js : List Joined) (told : Option Refusal) → first_refusal (unit_checks scope u) ≡ check_at_fault (first_refusal (unit_checks scope u)) told
+pub first_refused : (scope : List Scoped) (u : UnitTree) (js : List Joined) (told : Option BindRefusal) → first_refusal (unit_checks scope u) ≡ check_at_fault (first_refusal (unit_checks scope u)) told
     → first_refusal (cond_checks scope (more_joined (one_cond u) js)) ≡ check_at_fault (first_refusal (cond_checks scope (more_joined (one_cond u) js))) told
 first_refused scope u js told same =
     let e = ap first_refusal (more_checks scope (one_cond u) js ∙ ap (λ xs. xs ++ joined_checks scope js) (one_cond_checks scope u)) in
     e ∙ refused (unit_checks scope u) (joined_checks scope js) told same ∙ ap (λ check. check_at_fault check told) (sym e)
 
 -- the checks of the next of these units, and those behind it
-pub left_passed : (scope : List Scoped) (all : Check Refusal) (js : List Joined) (i : ℕ) (j : Joined) → i < length js → j ≡ get_or js i j
+pub left_passed : (scope : List Scoped) (all : Check BindRefusal) (js : List Joined) (i : ℕ) (j : Joined) → i < length js → j ≡ get_or js i j
     → all ≡ first_refusal (joined_checks scope (drop i js)) → first_refusal (unit_checks scope (joined_unit j)) ≡ None
     → all ≡ first_refusal (joined_checks scope (drop (i + 1) js))
 left_passed scope all js i j within is left nothing =
     left ∙ ap (λ ks. first_refusal (joined_checks scope ks)) (drop_next js i j within is)
     ∙ passed (unit_checks scope (joined_unit j)) (joined_checks scope (drop (i + 1) js)) nothing
 
-pub left_refused : (scope : List Scoped) (all : Check Refusal) (js : List Joined) (i : ℕ) (j : Joined) (told : Option Refusal) → i < length js → j ≡ get_or js i j
+pub left_refused : (scope : List Scoped) (all : Check BindRefusal) (js : List Joined) (i : ℕ) (j : Joined) (told : Option BindRefusal) → i < length js → j ≡ get_or js i j
     → all ≡ first_refusal (joined_checks scope (drop i js)) → first_refusal (unit_checks scope (joined_unit j)) ≡ check_at_fault (first_refusal (unit_checks scope (joined_unit j))) told
     → all ≡ check_at_fault all told
 left_refused scope all js i j told within is left same =
@@ -204,7 +204,7 @@ read_next scope whole read next js i j within is had nothing same = record {
 }
 
 -- a refusal of the first unit is one of all
-pub begin_refused : (scope : List Scoped) (d : Cond) (u : Predicate) (js : List Joined) (told : Option Refusal) → d ≡ cond.Units u js
+pub begin_refused : (scope : List Scoped) (d : Cond) (u : Predicate) (js : List Joined) (told : Option BindRefusal) → d ≡ cond.Units u js
     → first_refusal (unit_checks scope (predicate_tree u)) ≡ check_at_fault (first_refusal (unit_checks scope (predicate_tree u))) told
     → first_refusal (cond_checks scope (cond_tree d)) ≡ check_at_fault (first_refusal (cond_checks scope (cond_tree d))) told
 begin_refused scope d u js told is same =

@@ -18,7 +18,7 @@ use Rattle.sql_bind.proofs.ConditionLemmas.{joined_checks, negations_checks, neg
 use Rattle.qsr_lists.proofs.Walking.{drop_next}
 use Rattle.sql_bind.proofs.Making.{conditions_push}
 use Rattle.sql_front.proofs.Making.{group_tree, comparison_tree, units_are}
-use Rattle.sql_words.specs.Checks.{first_refusal}
+use Rattle.grammar_laws.specs.Checks.{first_refusal}
 
 -- ---- units
 

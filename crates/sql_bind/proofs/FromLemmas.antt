@@ -3,25 +3,25 @@ use Rattle.std.proofs.Common.{◌≡◌, sym, ap, ◌∙◌, subst, ℕ, ◌+◌
 use Rattle.std.proofs.lemmas.List.{append_assoc, map-append}
 use Rattle.qsr_lists.proofs.Walking.{drop_next}
 use Rattle.sql_bind.specs.Bound.{BoundTable, bound_table, bound_tables}
-use Rattle.sql_bind.specs.Checks.{on_checks, ons_checks, tells}
-use Rattle.sql_bind.specs.Names.{Refusal, Scoped, scope_behind, scope_from, scoped, table_of}
+use Rattle.sql_bind.specs.Checks.{on_checks, ons_checks, bind_tells}
+use Rattle.sql_bind.specs.Names.{BindRefusal, Scoped, scope_behind, scope_from, scoped, table_of}
 use Rattle.sql_bind.specs.View.{table_view}
 use Rattle.sql_bind.specs.declared.bound.BoundTable as code_table
 use Rattle.sql_bind.specs.declared.fault.BindFault.{BindFault}
 use Rattle.sql_bind.specs.declared.names.NamedTable.{NamedTable}
 use Rattle.sql_bind.proofs.CheckLemmas.{passed, refused}
 use Rattle.sql_front.specs.declared.tree.More.{More}
-use Rattle.sql_words.specs.Checks.{Check, Checks, first_refusal, check_at_fault, told}
+use Rattle.grammar_laws.specs.Checks.{Check, Checks, first_refusal, check_at_fault, told}
 
 -- a fault in checks that others follow is one of all
-pub fault_before : (all : Check Refusal) (xs ys : List (Check Refusal)) (said : Option Refusal) → all ≡ first_refusal (xs ++ ys)
+pub fault_before : (all : Check BindRefusal) (xs ys : List (Check BindRefusal)) (said : Option BindRefusal) → all ≡ first_refusal (xs ++ ys)
     → first_refusal xs ≡ check_at_fault (first_refusal xs) said → all ≡ check_at_fault all said
 fault_before all xs ys said same fault = subst (λ check. check ≡ check_at_fault check said) (sym same) (refused xs ys said fault)
 
 -- a result of checks behind others that refuse nothing is one of all
-pub result_behind : {X : Type 0} (all : Check Refusal) (xs ys : List (Check Refusal)) (result : Result X BindFault) → all ≡ first_refusal (xs ++ ys)
-    → first_refusal xs ≡ None → Checks tells ys result → all ≡ told tells all result
-result_behind all xs ys result same none checks = subst (λ check. check ≡ told tells check result) (sym (same ∙ passed xs ys none)) checks
+pub result_behind : {X : Type 0} (all : Check BindRefusal) (xs ys : List (Check BindRefusal)) (result : Result X BindFault) → all ≡ first_refusal (xs ++ ys)
+    → first_refusal xs ≡ None → Checks bind_tells ys result → all ≡ told bind_tells all result
+result_behind all xs ys result same none checks = subst (λ check. check ≡ told bind_tells check result) (sym (same ∙ passed xs ys none)) checks
 
 -- ---- one table after another
 

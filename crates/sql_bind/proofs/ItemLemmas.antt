@@ -5,7 +5,7 @@ use Rattle.sql_bind.proofs.CheckLemmas.{passed}
 use Rattle.sql_bind.proofs.FromLemmas.{fault_before}
 use Rattle.sql_bind.specs.Bound.{bound_groups, key_of_key}
 use Rattle.sql_bind.specs.Checks.{and_meant, columns_checks, group_columns, item_checks, items_checks, key_checks, keys_checks}
-use Rattle.sql_bind.specs.Names.{Scoped, Refusal, meant, refusal_of, column_or}
+use Rattle.sql_bind.specs.Names.{Scoped, BindRefusal, meant, bind_refusal_of, column_or}
 use Rattle.sql_bind.specs.declared.bound.BoundColumn.{BoundColumn}
 use Rattle.sql_bind.specs.declared.bound.BoundItem.{BoundItem}
 use Rattle.sql_bind.specs.declared.items.Grouping.{Grouping}
@@ -13,18 +13,18 @@ use Rattle.sql_front.specs.View.{column_tree}
 use Rattle.sql_front.specs.declared.tree.Column as code_column
 use Rattle.sql_front.specs.declared.tree.Item.{Item}
 use Rattle.sql_front.specs.declared.tree.Key.{Key}
-use Rattle.sql_words.specs.Checks.{Check, first_refusal, check_at_fault}
+use Rattle.grammar_laws.specs.Checks.{Check, first_refusal, check_at_fault}
 
 -- ---- items
 
-pub item_passed : (all : List (Check Refusal)) (g : Grouping) (scope : List Scoped) (items : List Item) (i : ℕ) (d : Item) → i < length items
+pub item_passed : (all : List (Check BindRefusal)) (g : Grouping) (scope : List Scoped) (items : List Item) (i : ℕ) (d : Item) → i < length items
     → first_refusal all ≡ first_refusal (items_checks g scope (drop i items)) → first_refusal (item_checks g scope (get_or items i d)) ≡ None
     → first_refusal all ≡ first_refusal (items_checks g scope (drop (i + 1) items))
 item_passed all g scope items i d low left none =
     left ∙ at_drop_more (λ is. first_refusal (items_checks g scope is)) items i d low
     ∙ passed (item_checks g scope (get_or items i d)) (items_checks g scope (drop (i + 1) items)) none
 
-pub item_refused : (all : List (Check Refusal)) (g : Grouping) (scope : List Scoped) (items : List Item) (i : ℕ) (d : Item) (told : Option Refusal) → i < length items
+pub item_refused : (all : List (Check BindRefusal)) (g : Grouping) (scope : List Scoped) (items : List Item) (i : ℕ) (d : Item) (told : Option BindRefusal) → i < length items
     → first_refusal all ≡ first_refusal (items_checks g scope (drop i items))
     → first_refusal (item_checks g scope (get_or items i d)) ≡ check_at_fault (first_refusal (item_checks g scope (get_or items i d))) told
     → first_refusal all ≡ check_at_fault (first_refusal all) told
@@ -34,7 +34,7 @@ item_refused all g scope items i d told low left same =
 
 -- ---- keys
 
-pub key_refused : (scope : List Scoped) (items : List BoundItem) (keys : List Key) (i : ℕ) (d : Key) (told : Option Refusal) → i < length keys
+pub key_refused : (scope : List Scoped) (items : List BoundItem) (keys : List Key) (i : ℕ) (d : Key) (told : Option BindRefusal) → i < length keys
     → first_refusal (keys_checks scope items keys) ≡ first_refusal (keys_checks scope items (drop i keys))
     → first_refusal (key_checks scope items (key_of_key (get_or keys i d))) ≡ check_at_fault (first_refusal (key_checks scope items (key_of_key (get_or keys i d)))) told
     → first_refusal (keys_checks scope items keys) ≡ check_at_fault (first_refusal (keys_checks scope items keys)) told
@@ -44,7 +44,7 @@ key_refused scope items keys i d told low left same =
 
 -- ---- GROUP BY
 
-meant_first : (meaning : Result BoundColumn Refusal) (checks : List (Check Refusal)) (others bound : List BoundColumn) → first_refusal (refusal_of meaning ∷ checks) ≡ None
+meant_first : (meaning : Result BoundColumn BindRefusal) (checks : List (Check BindRefusal)) (others bound : List BoundColumn) → first_refusal (bind_refusal_of meaning ∷ checks) ≡ None
     → (first_refusal checks ≡ None → others ≡ bound) → and_meant meaning others ≡ column_or meaning ∷ bound
 meant_first (Ok column) checks others bound passes same = ap (λ columns. column ∷ columns) (same passes)
 meant_first (Err refusal) checks others bound passes same = cc

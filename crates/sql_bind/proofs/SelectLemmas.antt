@@ -5,7 +5,7 @@ use Rattle.std.proofs.lemmas.Bool.{cases_lt}
 use Rattle.std.proofs.lemmas.List.{append_assoc, at_drop_all, map-append}
 use Rattle.sql_bind.specs.Bound.{bound_select}
 use Rattle.sql_bind.specs.Checks.{alike_checks, are_alike, differ, is_text_item, items_of, refuse_if, select_checks, selects_checks, union_checks}
-use Rattle.sql_bind.specs.Names.{Refusal, UnionClash}
+use Rattle.sql_bind.specs.Names.{BindRefusal, UnionClash}
 use Rattle.sql_bind.specs.View.{select_view}
 use Rattle.sql_bind.specs.declared.bound.BoundItem.{BoundItem}
 use Rattle.sql_bind.specs.declared.bound.BoundSelect as code_select
@@ -14,7 +14,7 @@ use Rattle.sql_bind.proofs.CheckLemmas.{passed}
 use Rattle.qsr_lists.proofs.Walking.{drop_next, take_next}
 use Rattle.sql_front.specs.declared.tree.Select.{Select}
 use Rattle.sql_front.specs.declared.tree.UnionAll.{UnionAll}
-use Rattle.sql_words.specs.Checks.{Check, check_at_fault, first_refusal}
+use Rattle.grammar_laws.specs.Checks.{Check, check_at_fault, first_refusal}
 
 -- the checks of the next select, and those behind it
 pub selects_turn : (names : List NamedTable) (more : List UnionAll) (i : ℕ) (u : UnionAll) → i < length more → u ≡ get_or more i u
@@ -77,30 +77,30 @@ alike_end first others more n same = by (cases_lt (length others) (length more))
 
 -- ---- parts of a select
 
-pub first_part : (xs ys zs : List (Check Refusal)) → first_refusal (xs ++ ys ++ zs) ≡ first_refusal (xs ++ (ys ++ zs))
+pub first_part : (xs ys zs : List (Check BindRefusal)) → first_refusal (xs ++ ys ++ zs) ≡ first_refusal (xs ++ (ys ++ zs))
 first_part xs ys zs = ap first_refusal (append_assoc xs ys zs)
 
-pub second_part : (xs ys zs : List (Check Refusal)) → first_refusal xs ≡ None → first_refusal (xs ++ ys ++ zs) ≡ first_refusal (ys ++ zs)
+pub second_part : (xs ys zs : List (Check BindRefusal)) → first_refusal xs ≡ None → first_refusal (xs ++ ys ++ zs) ≡ first_refusal (ys ++ zs)
 second_part xs ys zs none = first_part xs ys zs ∙ passed xs (ys ++ zs) none
 
-pub third_part : (xs ys zs : List (Check Refusal)) → first_refusal xs ≡ None → first_refusal ys ≡ None → first_refusal (xs ++ ys ++ zs) ≡ first_refusal zs
+pub third_part : (xs ys zs : List (Check BindRefusal)) → first_refusal xs ≡ None → first_refusal ys ≡ None → first_refusal (xs ++ ys ++ zs) ≡ first_refusal zs
 third_part xs ys zs none none' = second_part xs ys zs none ∙ passed ys zs none'
 
 -- a fault in the last checks is one of all
-pub fault_at : (all some : Check Refusal) (said : Option Refusal) → all ≡ some → some ≡ check_at_fault some said → all ≡ check_at_fault all said
+pub fault_at : (all some : Check BindRefusal) (said : Option BindRefusal) → all ≡ some → some ≡ check_at_fault some said → all ≡ check_at_fault all said
 fault_at all some said same fault = subst (λ check. check ≡ check_at_fault check said) (sym same) fault
 
 -- ---- parts of a query
 
-pub first_of_four : (xs ys zs ws : List (Check Refusal)) → first_refusal (xs ++ ys ++ zs ++ ws) ≡ first_refusal (xs ++ (ys ++ (zs ++ ws)))
+pub first_of_four : (xs ys zs ws : List (Check BindRefusal)) → first_refusal (xs ++ ys ++ zs ++ ws) ≡ first_refusal (xs ++ (ys ++ (zs ++ ws)))
 first_of_four xs ys zs ws = ap first_refusal (append_assoc (xs ++ ys) zs ws ∙ append_assoc xs ys (zs ++ ws))
 
-pub second_of_four : (xs ys zs ws : List (Check Refusal)) → first_refusal xs ≡ None → first_refusal (xs ++ ys ++ zs ++ ws) ≡ first_refusal (ys ++ (zs ++ ws))
+pub second_of_four : (xs ys zs ws : List (Check BindRefusal)) → first_refusal xs ≡ None → first_refusal (xs ++ ys ++ zs ++ ws) ≡ first_refusal (ys ++ (zs ++ ws))
 second_of_four xs ys zs ws none = first_of_four xs ys zs ws ∙ passed xs (ys ++ (zs ++ ws)) none
 
-pub third_of_four : (xs ys zs ws : List (Check Refusal)) → first_refusal xs ≡ None → first_refusal ys ≡ None → first_refusal (xs ++ ys ++ zs ++ ws) ≡ first_refusal (zs ++ ws)
+pub third_of_four : (xs ys zs ws : List (Check BindRefusal)) → first_refusal xs ≡ None → first_refusal ys ≡ None → first_refusal (xs ++ ys ++ zs ++ ws) ≡ first_refusal (zs ++ ws)
 third_of_four xs ys zs ws none none' = second_of_four xs ys zs ws none ∙ passed ys (zs ++ ws) none'
 
-pub fourth_of_four : (xs ys zs ws : List (Check Refusal)) → first_refusal xs ≡ None → first_refusal ys ≡ None → first_refusal zs ≡ None
+pub fourth_of_four : (xs ys zs ws : List (Check BindRefusal)) → first_refusal xs ≡ None → first_refusal ys ≡ None → first_refusal zs ≡ None
     → first_refusal (xs ++ ys ++ zs ++ ws) ≡ first_refusal ws
 fourth_of_four xs ys zs ws none none' none'' = third_of_four xs ys zs ws none none' ∙ passed zs ws none''

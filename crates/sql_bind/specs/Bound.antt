@@ -2,7 +2,7 @@
 use Rattle.std.specs.Prelude.{ℕ, zero, suc, ℤ, pos, neg_ℤ, ◌+◌, ◌-◌, ◌==◌, ◌&&◌, ◌||◌, Bool, true, false, if◌then◌else◌, List, [], ◌∷◌, ◌++◌, length, map, nat_lt, Option, Some, None, option_map}
 use Rattle.std.specs.Int.{int_wrap, w128}
 use Rattle.qsr_value.specs.declared.schema.Column as table_column
-use Rattle.sql_bind.specs.Names.{Scoped, letters, name_of, table_of, scoped, scope_behind, scope_of, place_or_first, table_named, bound_column}
+use Rattle.sql_bind.specs.Names.{Scoped, letters, name_of_table, table_of, scoped, scope_behind, scope_of, place_or_first, table_named, bound_column}
 use Rattle.sql_bind.specs.declared.bound.BoundColumn.{BoundColumn}
 use Rattle.sql_bind.specs.declared.bound.BoundItem.{BoundItem}
 use Rattle.sql_bind.specs.declared.bound.BoundItem.TheVariants as bound_item
@@ -131,7 +131,7 @@ on_of scope s (more.Comma t) = none
 on_of scope s (more.Join j t c) = and_conjuncts (scope ++ s ∷ []) none (cond_tree c)
 
 abbrev pub place_of_table : List NamedTable → Table → ℕ
-place_of_table names t = place_or_first (table_named names (letters (name_of t)))
+place_of_table names t = place_or_first (table_named names (letters (name_of_table t)))
 
 abbrev pub first_table : List NamedTable → Table → BoundTable
 first_table names t = record { table = place_of_table names t; joined = by.Product; conditions = none }

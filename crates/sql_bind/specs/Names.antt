@@ -17,14 +17,14 @@ use Rattle.sql_front.specs.declared.tree.NameAt as code
 use Rattle.sql_front.specs.declared.tree.Select.{Select}
 
 -- a refusal, with the name that it is about and its place in the text
-pub data Refusal : Type 0 where
-  NoTable : List ℕ → ℕ → Refusal
-  NoColumn : List ℕ → ℕ → Refusal
-  Ambiguous : List ℕ → ℕ → Refusal
-  TypeClash : ℕ → Refusal
-  NeedsGroup : ℕ → Refusal
-  NotSelected : ℕ → Refusal
-  UnionClash : ℕ → Refusal
+pub data BindRefusal : Type 0 where
+  NoTable : List ℕ → ℕ → BindRefusal
+  NoColumn : List ℕ → ℕ → BindRefusal
+  Ambiguous : List ℕ → ℕ → BindRefusal
+  TypeClash : ℕ → BindRefusal
+  NeedsGroup : ℕ → BindRefusal
+  NotSelected : ℕ → BindRefusal
+  UnionClash : ℕ → BindRefusal
 
 -- ---- the tables that there are
 
@@ -47,10 +47,10 @@ columns_or_none (Some found) = found.1
 
 -- ---- the tables of FROM
 
-abbrev pub name_of : Table → code.NameAt
-name_of (table.Bare n) = n
-name_of (table.Renamed n m) = n
-name_of (table.RenamedAs n m) = n
+abbrev pub name_of_table : Table → code.NameAt
+name_of_table (table.Bare n) = n
+name_of_table (table.Renamed n m) = n
+name_of_table (table.RenamedAs n m) = n
 
 -- what a table is known by: its second name if it has one
 abbrev pub known_by : Table → code.NameAt
@@ -75,7 +75,7 @@ pub record Scoped : Type 0 where
   pub columns : List table_column.Column
 
 abbrev pub scoped : List NamedTable → ℕ → Table → Scoped
-scoped names place t = record { place = place; known = known t; columns = columns_or_none (table_named names (letters (name_of t))) }
+scoped names place t = record { place = place; known = known t; columns = columns_or_none (table_named names (letters (name_of_table t))) }
 
 -- The table of a semi or anti join is in scope in its own ON alone.
 abbrev pub stays : Join → Bool
@@ -117,7 +117,7 @@ columns_named [] name = []
 columns_named (s ∷ scope) name = and_found (column_in s name) (columns_named scope name)
 
 -- the one column that a name without a dot means
-abbrev pub only_one : List BoundColumn → NameAt → Result BoundColumn Refusal
+abbrev pub only_one : List BoundColumn → NameAt → Result BoundColumn BindRefusal
 only_one [] n = Err (NoColumn n.letters n.at)
 only_one (c ∷ []) n = Ok c
 only_one (c ∷ d ∷ others) n = Err (Ambiguous n.letters n.at)
@@ -127,25 +127,25 @@ table_known [] name = None
 table_known (s ∷ scope) name = if same_name s.known name then Some s else table_known scope name
 
 -- the column that a name behind a table's name and a dot means
-abbrev pub or_no_column : Option BoundColumn → NameAt → NameAt → Result BoundColumn Refusal
+abbrev pub or_no_column : Option BoundColumn → NameAt → NameAt → Result BoundColumn BindRefusal
 or_no_column None t n = Err (NoColumn n.letters t.at)
 or_no_column (Some c) t n = Ok c
 
-abbrev pub column_behind : Option Scoped → NameAt → NameAt → Result BoundColumn Refusal
+abbrev pub column_behind : Option Scoped → NameAt → NameAt → Result BoundColumn BindRefusal
 column_behind None t n = Err (NoTable t.letters t.at)
 column_behind (Some s) t n = or_no_column (column_in s n.letters) t n
 
 -- what a column of the text means
-unfoldable pub meant : List Scoped → Column → Result BoundColumn Refusal
+unfoldable pub meant : List Scoped → Column → Result BoundColumn BindRefusal
 meant scope (plain n) = only_one (columns_named scope n.letters) n
 meant scope (dotted t n) = column_behind (table_known scope t.letters) t n
 
-abbrev pub refusal_of : Result BoundColumn Refusal → Option Refusal
-refusal_of (Ok c) = None
-refusal_of (Err r) = Some r
+abbrev pub bind_refusal_of : Result BoundColumn BindRefusal → Option BindRefusal
+bind_refusal_of (Ok c) = None
+bind_refusal_of (Err r) = Some r
 
 -- the column; where the name is refused nobody sees it
-abbrev pub column_or : Result BoundColumn Refusal → BoundColumn
+abbrev pub column_or : Result BoundColumn BindRefusal → BoundColumn
 column_or (Ok c) = c
 column_or (Err r) = record { table = 0; place = 0; kind = kind.Int }
 

@@ -1,8 +1,8 @@
 ghost use Rattle.std.specs.Prelude.{◌≡◌, IfOk};
 ghost use Rattle.sql_bind.specs.Bound.{bound_query};
-ghost use Rattle.sql_bind.specs.Checks.{query_checks, tells};
+ghost use Rattle.sql_bind.specs.Checks.{query_checks, bind_tells};
 ghost use Rattle.sql_bind.specs.View.{bound_view};
-ghost use Rattle.sql_words.specs.Checks.{Checks};
+ghost use Rattle.grammar_laws.specs.Checks.{Checks};
 
 use crate::keys::keys;
 use crate::selects::{SelectPart, check_alike, others, select};
@@ -15,7 +15,7 @@ use std::alloc::Global;
 /// order: the tables of FROM from left to right, each ON in text order, WHERE, the items, GROUP BY; so for each select; then selects
 /// that aren't alike; then ORDER BY.
 pub fn bind(alloc: Global, query: &Query, tables: &Names) -> Result<Bound, BindFault>
-    ensures checks { Checks tells (query_checks tables.now query.now) result }
+    ensures checks { Checks bind_tells (query_checks tables.now query.now) result }
     ensures bound { IfOk result (λ b. bound_view b ≡ bound_query tables.now query.now) }
 {
     let names = tables.as_slice();

@@ -1,11 +1,11 @@
 ghost use Rattle.std.specs.Prelude.{◌≡◌, ℕ, IfOk};
 ghost use Rattle.sql_bind.specs.Bound.{bound_cond, bound_unit, operand_of, signed_number};
-ghost use Rattle.sql_bind.specs.Checks.{cond_checks, is_text, is_text_operand, side_checks, tells, unit_checks};
+ghost use Rattle.sql_bind.specs.Checks.{cond_checks, is_text, is_text_operand, side_checks, bind_tells, unit_checks};
 ghost use Rattle.sql_bind.specs.Gathered.{condition_view, next_read};
 ghost use Rattle.sql_bind.specs.View.{condition_of, joined_unit};
 ghost use Rattle.sql_front.specs.Tree.{compare};
 ghost use Rattle.sql_front.specs.View.{cond_tree, predicate_tree, side_tree};
-ghost use Rattle.sql_words.specs.Checks.{Checks};
+ghost use Rattle.grammar_laws.specs.Checks.{Checks};
 
 use crate::bound::{Condition, Operand};
 use crate::make::OpenCondition;
@@ -50,7 +50,7 @@ fn signed_number(negative: bool, value: u128) -> i128
 
 /// A side of a comparison.
 fn operand(alloc: Global, scope: &[Scoped], side: &Side) -> Result<Operand, BindFault>
-    ensures checks { Checks tells (side_checks scope.now (side_tree side.now)) result }
+    ensures checks { Checks bind_tells (side_checks scope.now (side_tree side.now)) result }
     ensures bound { IfOk result (λ o. o ≡ operand_of scope.now (side_tree side.now)) }
 {
     match side {
@@ -71,7 +71,7 @@ fn comparison(
     at: u32,
     right: &Side,
 ) -> Result<Condition, BindFault>
-    ensures checks { Checks tells (unit_checks scope.now (compare (side_tree left.now) how at (side_tree right.now))) result }
+    ensures checks { Checks bind_tells (unit_checks scope.now (compare (side_tree left.now) how at (side_tree right.now))) result }
     ensures bound { IfOk result (λ c. condition_of c ≡ bound_unit scope.now (compare (side_tree left.now) how at (side_tree right.now))) }
 {
     let left = operand(alloc, scope, left)?;
@@ -90,7 +90,7 @@ pub(crate) fn unit(
     scope: &[Scoped],
     unit: &Predicate,
 ) -> Result<Condition, BindFault>
-    ensures checks { Checks tells (unit_checks scope.now (predicate_tree unit.now)) result }
+    ensures checks { Checks bind_tells (unit_checks scope.now (predicate_tree unit.now)) result }
     ensures bound { IfOk result (λ c. condition_of c ≡ bound_unit scope.now (predicate_tree unit.now)) }
 {
     match unit {
@@ -114,7 +114,7 @@ fn joined(
     before: OpenCondition,
     next: &Joined,
 ) -> Result<OpenCondition, BindFault>
-    ensures checks { Checks tells (unit_checks scope.now (joined_unit next.now)) result }
+    ensures checks { Checks bind_tells (unit_checks scope.now (joined_unit next.now)) result }
     ensures bound { IfOk result (λ r. condition_view r ≡ next_read scope.now (condition_view before) next.now) }
 {
     match next {
@@ -133,7 +133,7 @@ fn joined(
 #[cycle(walk)]
 #[tactic(auto, using(crate::proofs::ConditionLemmas::walking))]
 pub(crate) fn cond(alloc: Global, scope: &[Scoped], cond: &Cond) -> Result<Condition, BindFault>
-    ensures checks { Checks tells (cond_checks scope.now (cond_tree cond.now)) result }
+    ensures checks { Checks bind_tells (cond_checks scope.now (cond_tree cond.now)) result }
     ensures bound { IfOk result (λ c. condition_of c ≡ bound_cond scope.now (cond_tree cond.now)) }
 {
     match cond {

@@ -1,9 +1,9 @@
 ghost use Rattle.std.specs.Prelude.{◌≡◌, OnOk};
 ghost use Rattle.sql_bind.specs.Bound.{and_conjuncts, and_parts};
-ghost use Rattle.sql_bind.specs.Checks.{cond_checks, tells, unit_checks};
+ghost use Rattle.sql_bind.specs.Checks.{cond_checks, bind_tells, unit_checks};
 ghost use Rattle.sql_bind.specs.View.{conditions_of, has_or, joined_unit};
 ghost use Rattle.sql_front.specs.View.{cond_tree, predicate_tree};
-ghost use Rattle.sql_words.specs.Checks.{Checks};
+ghost use Rattle.grammar_laws.specs.Checks.{Checks};
 
 use crate::BindFault;
 use crate::bound::Condition;
@@ -34,7 +34,7 @@ pub(crate) fn push_conjuncts(
     cond: &Cond,
     conjuncts: &mut Items<Condition>,
 ) -> Result<(), BindFault>
-    ensures checks { Checks tells (cond_checks scope.now (cond_tree cond.now)) result }
+    ensures checks { Checks bind_tells (cond_checks scope.now (cond_tree cond.now)) result }
     ensures pushed { OnOk result (conditions_of conjuncts.new ≡ and_conjuncts scope.now (conditions_of conjuncts.old) (cond_tree cond.now)) }
 {
     match cond {
@@ -61,7 +61,7 @@ fn push_joined(
     next: &Joined,
     conjuncts: &mut Items<Condition>,
 ) -> Result<(), BindFault>
-    ensures checks { Checks tells (unit_checks scope.now (joined_unit next.now)) result }
+    ensures checks { Checks bind_tells (unit_checks scope.now (joined_unit next.now)) result }
     ensures pushed { OnOk result (conditions_of conjuncts.new ≡ and_parts scope.now (conditions_of conjuncts.old) (joined_unit next.now)) }
 {
     match next {
@@ -77,7 +77,7 @@ fn push_unit(
     unit: &Predicate,
     conjuncts: &mut Items<Condition>,
 ) -> Result<(), BindFault>
-    ensures checks { Checks tells (unit_checks scope.now (predicate_tree unit.now)) result }
+    ensures checks { Checks bind_tells (unit_checks scope.now (predicate_tree unit.now)) result }
     ensures pushed { OnOk result (conditions_of conjuncts.new ≡ and_parts scope.now (conditions_of conjuncts.old) (predicate_tree unit.now)) }
 {
     match unit {

@@ -1,11 +1,11 @@
 ghost use Rattle.std.specs.Prelude.{◌≡◌, [], ◌∷◌, ◌++◌, map, IfOk, OnOk};
 ghost use Rattle.sql_bind.specs.Bound.{bound_from, bound_table, bound_tables, first_table, how_of, joined_by, on_of};
 ghost use Rattle.qsr_value.specs.Names.{is_among};
-ghost use Rattle.sql_bind.specs.Checks.{from_checks, on_checks, ons_checks, table_checks, tables_checks, tells};
-ghost use Rattle.sql_bind.specs.Names.{known, known_by, letters, name_of, place_or_first, scope_behind, scope_from, scope_of, scoped, table_named, table_of};
+ghost use Rattle.sql_bind.specs.Checks.{from_checks, on_checks, ons_checks, table_checks, tables_checks, bind_tells};
+ghost use Rattle.sql_bind.specs.Names.{known, known_by, letters, name_of_table, place_or_first, scope_behind, scope_from, scope_of, scoped, table_named, table_of};
 ghost use Rattle.sql_bind.specs.View.{conditions_of, table_view};
 ghost use Rattle.sql_tokens.specs.Words.{letters_of};
-ghost use Rattle.sql_words.specs.Checks.{Checks};
+ghost use Rattle.grammar_laws.specs.Checks.{Checks};
 
 use crate::BindFault;
 use crate::bound::{BoundTable, Condition, JoinedBy};
@@ -26,7 +26,7 @@ pub(crate) struct FromPart<'t> {
 }
 
 fn name_of(table: &Table) -> NameAt
-    ensures { result ≡ name_of table.now }
+    ensures { result ≡ name_of_table table.now }
 {
     match table {
         Table::Bare(name) | Table::Renamed(name, _) | Table::RenamedAs(name, _) => *name,
@@ -67,7 +67,7 @@ fn is_known_before(first: &Table, more: &[More], name: &Name) -> bool
 
 /// Refuses a table that isn't there.
 fn check_there(names: &[NamedTable], table: &Table) -> Result<(), BindFault>
-    ensures { Checks tells (table_checks names.now [] table.now) result }
+    ensures { Checks bind_tells (table_checks names.now [] table.now) result }
 {
     let NameAt { name, at } = name_of(table);
     match table_named(names, &name) {
@@ -83,7 +83,7 @@ fn check_table(
     before: &[More],
     table: &Table,
 ) -> Result<(), BindFault>
-    ensures { Checks tells (table_checks names.now (known first.now ∷ map (λ m. known (table_of m)) before.now) table.now) result }
+    ensures { Checks bind_tells (table_checks names.now (known first.now ∷ map (λ m. known (table_of m)) before.now) table.now) result }
 {
     check_there(names, table)?;
     let NameAt { name, at } = known_by(table);
@@ -95,7 +95,7 @@ fn check_table(
 
 /// Refuses the first table of FROM that isn't there or is known as one before it.
 fn check_tables(names: &[NamedTable], first: &Table, more: &[More]) -> Result<(), BindFault>
-    ensures { Checks tells (table_checks names.now [] first.now ++ tables_checks names.now (known first.now ∷ []) more.now) result }
+    ensures { Checks bind_tells (table_checks names.now [] first.now ++ tables_checks names.now (known first.now ∷ []) more.now) result }
 {
     check_there(names, first)?;
     for place in 0..more.len() {
@@ -106,7 +106,7 @@ fn check_tables(names: &[NamedTable], first: &Table, more: &[More]) -> Result<()
 
 /// A table, which stands at this place of FROM: its place among the tables that there are, and how it is seen in scope.
 fn scoped<'t>(names: &'t [NamedTable], place: usize, table: &Table) -> (usize, Scoped<'t>)
-    ensures place { result.0 ≡ place_or_first (table_named names.now (letters (name_of table.now))) }
+    ensures place { result.0 ≡ place_or_first (table_named names.now (letters (name_of_table table.now))) }
     ensures scoped { result.1 ≡ scoped names.now place table.now }
 {
     let known = known_by(table).name;
@@ -149,7 +149,7 @@ fn on_part<'t>(
     table: Scoped<'t>,
     more: &More,
 ) -> Result<Items<Condition>, BindFault>
-    ensures checks { Checks tells (on_checks scope.old table.entry more.now) result }
+    ensures checks { Checks bind_tells (on_checks scope.old table.entry more.now) result }
     ensures conditions { IfOk result (λ cs. conditions_of cs ≡ on_of scope.old table.entry more.now) }
     ensures scope { OnOk result (scope.new ≡ scope_behind more.now scope.old table.entry) }
 {
@@ -172,7 +172,7 @@ fn next_table<'t>(
     place: usize,
     more: &More,
 ) -> Result<BoundTable, BindFault>
-    ensures checks { Checks tells (on_checks scope.old (scoped names.now place (table_of more.now)) more.now) result }
+    ensures checks { Checks bind_tells (on_checks scope.old (scoped names.now place (table_of more.now)) more.now) result }
     ensures bound { IfOk result (λ t. table_view t ≡ bound_table names.now scope.old (scoped names.now place (table_of more.now)) more.now) }
     ensures scope { OnOk result (scope.new ≡ scope_behind more.now scope.old (scoped names.now place (table_of more.now))) }
 {
@@ -192,7 +192,7 @@ fn tables<'t>(
     first: &Table,
     more: &[More],
 ) -> Result<FromPart<'t>, BindFault>
-    ensures checks { Checks tells (ons_checks names.now 1 (scoped names.now 0 first.now ∷ []) more.now) result }
+    ensures checks { Checks bind_tells (ons_checks names.now 1 (scoped names.now 0 first.now ∷ []) more.now) result }
     ensures tables { IfOk result (λ f. map table_view f.tables ≡ first_table names.now first.now ∷ bound_tables names.now 1 (scoped names.now 0 first.now ∷ []) more.now) }
     ensures scope { IfOk result (λ f. f.scope ≡ scope_from names.now 1 (scoped names.now 0 first.now ∷ []) more.now) }
 {
@@ -217,7 +217,7 @@ pub(crate) fn from<'t>(
     names: &'t [NamedTable],
     select: &Select,
 ) -> Result<FromPart<'t>, BindFault>
-    ensures checks { Checks tells (from_checks names.now select.now) result }
+    ensures checks { Checks bind_tells (from_checks names.now select.now) result }
     ensures tables { IfOk result (λ f. map table_view f.tables ≡ bound_from names.now select.now) }
     ensures scope { IfOk result (λ f. f.scope ≡ scope_of names.now select.now) }
 {

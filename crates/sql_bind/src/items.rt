@@ -1,9 +1,9 @@
 ghost use Rattle.std.specs.Prelude.{◌≡◌, [], ◌∷◌, ◌++◌, map, IfOk, OnOk, ◌&&◌, ◌==◌, not};
 ghost use Rattle.sql_bind.specs.Bound.{bound_groups, bound_items, bound_one, columns_from, every_column, same_column};
-ghost use Rattle.sql_bind.specs.Checks.{any_aggregate, clash_of_sum, columns_checks, group_columns, grouping_of, has_aggregate, is_aggregate, is_column_among, is_ungrouped, item_checks, items_checks, selection_checks, tells};
+ghost use Rattle.sql_bind.specs.Checks.{any_aggregate, clash_of_sum, columns_checks, group_columns, grouping_of, has_aggregate, is_aggregate, is_column_among, is_ungrouped, item_checks, items_checks, selection_checks, bind_tells};
 ghost use Rattle.sql_front.specs.View.{column_tree};
 ghost use Rattle.sql_front.specs.declared.tree.Item.TheVariants as item;
-ghost use Rattle.sql_words.specs.Checks.{Checks};
+ghost use Rattle.grammar_laws.specs.Checks.{Checks};
 
 use crate::BindFault;
 use crate::bound::{BoundColumn, BoundItem};
@@ -130,7 +130,7 @@ fn plain_item(
     scope: &[Scoped],
     column: &Column,
 ) -> Result<BoundItem, BindFault>
-    ensures checks { Checks tells (item_checks grouping.now scope.now (item.Column column.now)) result }
+    ensures checks { Checks bind_tells (item_checks grouping.now scope.now (item.Column column.now)) result }
     ensures bound { IfOk result (λ i. i ≡ bound_one scope.now (item.Column column.now)) }
 {
     let meaning = meant(scope, column)?;
@@ -149,7 +149,7 @@ fn fold_item(
     at: u32,
     column: &Column,
 ) -> Result<BoundItem, BindFault>
-    ensures checks { Checks tells (item_checks grouping.now scope.now (item.Fold fold at column.now)) result }
+    ensures checks { Checks bind_tells (item_checks grouping.now scope.now (item.Fold fold at column.now)) result }
     ensures bound { IfOk result (λ i. i ≡ bound_one scope.now (item.Fold fold at column.now)) }
 {
     if !grouping.grouped {
@@ -164,7 +164,7 @@ fn fold_item(
 }
 
 fn item_bound(grouping: &Grouping, scope: &[Scoped], item: &Item) -> Result<BoundItem, BindFault>
-    ensures checks { Checks tells (item_checks grouping.now scope.now item.now) result }
+    ensures checks { Checks bind_tells (item_checks grouping.now scope.now item.now) result }
     ensures bound { IfOk result (λ i. i ≡ bound_one scope.now item.now) }
 {
     match item {
@@ -183,7 +183,7 @@ fn listed(
     first: &Item,
     more: &[Item],
 ) -> Result<Items<BoundItem>, BindFault>
-    ensures checks { Checks tells (items_checks grouping.now scope.now (first.now ∷ more.now)) result }
+    ensures checks { Checks bind_tells (items_checks grouping.now scope.now (first.now ∷ more.now)) result }
     ensures bound { IfOk result (λ is. is ≡ bound_one scope.now first.now ∷ map (bound_one scope.now) more.now) }
 {
     let first = item_bound(grouping, scope, first)?;
@@ -227,7 +227,7 @@ pub(crate) fn items(
     scope: &[Scoped],
     selection: &Selection,
 ) -> Result<Items<BoundItem>, BindFault>
-    ensures checks { Checks tells (selection_checks grouping.now scope.now selection.now) result }
+    ensures checks { Checks bind_tells (selection_checks grouping.now scope.now selection.now) result }
     ensures bound { IfOk result (λ is. is ≡ bound_items scope.now selection.now) }
 {
     match selection {
@@ -239,7 +239,7 @@ pub(crate) fn items(
 
 /// Refuses the first column of GROUP BY that has no meaning.
 fn check_columns(scope: &[Scoped], columns: &[Column]) -> Result<(), BindFault>
-    ensures { Checks tells (columns_checks scope.now columns.now) result }
+    ensures { Checks bind_tells (columns_checks scope.now columns.now) result }
 {
     for column in columns {
         meant(scope, column)?;
@@ -255,7 +255,7 @@ pub(crate) fn groups(
     columns: &[Column],
 ) -> Result<Items<BoundColumn>, BindFault>
     requires { grouping.columns ≡ group_columns scope.now columns.now }
-    ensures checks { Checks tells (columns_checks scope.now columns.now) result }
+    ensures checks { Checks bind_tells (columns_checks scope.now columns.now) result }
     ensures bound { IfOk result (λ cs. cs ≡ bound_groups scope.now columns.now) }
 {
     check_columns(scope, columns)?;

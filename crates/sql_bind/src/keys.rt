@@ -1,8 +1,8 @@
 ghost use Rattle.std.specs.Prelude.{◌≡◌, [], ◌∷◌, map, IfOk, IfSome, OnOk};
 ghost use Rattle.sql_bind.specs.Bound.{bound_key, descends, item_from, item_of_key, key_of_key, is_column};
-ghost use Rattle.sql_bind.specs.Checks.{key_checks, keys_checks, place_of_key, tells};
+ghost use Rattle.sql_bind.specs.Checks.{key_checks, keys_checks, place_of_key, bind_tells};
 ghost use Rattle.sql_front.specs.declared.tree.KeyOf.TheVariants as key_of;
-ghost use Rattle.sql_words.specs.Checks.{Checks};
+ghost use Rattle.grammar_laws.specs.Checks.{Checks};
 
 use crate::BindFault;
 use crate::bound::{BoundColumn, BoundItem, BoundKey};
@@ -39,7 +39,7 @@ fn item_of_column(
     items: &[BoundItem],
     column: &Column,
 ) -> Result<usize, BindFault>
-    ensures checks { Checks tells (key_checks scope.now items.now (key_of.Column column.now)) result }
+    ensures checks { Checks bind_tells (key_checks scope.now items.now (key_of.Column column.now)) result }
     ensures item { IfOk result (λ place. item_of_key scope.now items.now (key_of.Column column.now) ≡ Some place) }
 {
     let meaning = meant(scope, column)?;
@@ -53,7 +53,7 @@ fn item_of_number(
     items: &[BoundItem],
     number: &NumberAt,
 ) -> Result<usize, BindFault>
-    ensures checks { Checks tells (key_checks scope.now items.now (key_of.Number number.now)) result }
+    ensures checks { Checks bind_tells (key_checks scope.now items.now (key_of.Number number.now)) result }
     ensures item { IfOk result (λ place. item_of_key scope.now items.now (key_of.Number number.now) ≡ Some place) }
 {
     let NumberAt { value, at } = *number;
@@ -65,7 +65,7 @@ fn item_of_number(
 
 /// The item that a key is.
 fn item_of_key(scope: &[Scoped], items: &[BoundItem], key: &KeyOf) -> Result<usize, BindFault>
-    ensures checks { Checks tells (key_checks scope.now items.now key.now) result }
+    ensures checks { Checks bind_tells (key_checks scope.now items.now key.now) result }
     ensures item { IfOk result (λ place. item_of_key scope.now items.now key.now ≡ Some place) }
 {
     match key {
@@ -86,7 +86,7 @@ fn parts_of(key: &Key) -> (KeyOf, bool)
 }
 
 fn key_bound(scope: &[Scoped], items: &[BoundItem], key: &Key) -> Result<BoundKey, BindFault>
-    ensures checks { Checks tells (key_checks scope.now items.now (key_of_key key.now)) result }
+    ensures checks { Checks bind_tells (key_checks scope.now items.now (key_of_key key.now)) result }
     ensures bound { IfOk result (λ k. k ≡ bound_key scope.now items.now key.now) }
 {
     let (of, descending) = parts_of(key);
@@ -102,7 +102,7 @@ pub(crate) fn keys(
     items: &[BoundItem],
     keys: &[Key],
 ) -> Result<Items<BoundKey>, BindFault>
-    ensures checks { Checks tells (keys_checks scope.now items.now keys.now) result }
+    ensures checks { Checks bind_tells (keys_checks scope.now items.now keys.now) result }
     ensures bound { IfOk result (λ ks. ks ≡ map (bound_key scope.now items.now) keys.now) }
 {
     let mut bound = Items::from_vec(Vec::with_capacity(alloc, keys.len())?);

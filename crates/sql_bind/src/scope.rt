@@ -1,11 +1,11 @@
 ghost use Rattle.std.specs.Prelude.{◌≡◌, [], ◌∷◌, IfOk};
 ghost use Rattle.std.specs.Option.{option_copied};
-ghost use Rattle.sql_bind.specs.Checks.{column_check, tells};
+ghost use Rattle.sql_bind.specs.Checks.{column_check, bind_tells};
 ghost use Rattle.sql_bind.specs.Names.{bound_column, place_in_text, table_known};
 ghost use Rattle.sql_tokens.specs.Words.{letters_of};
 ghost use Rattle.sql_front.specs.Tree.{dotted, plain};
 ghost use Rattle.sql_front.specs.View.{column_tree, name_tree};
-ghost use Rattle.sql_words.specs.Checks.{Checks};
+ghost use Rattle.grammar_laws.specs.Checks.{Checks};
 
 use crate::BindFault;
 use crate::bound::BoundColumn;
@@ -64,7 +64,7 @@ impl<'t> Scoped<'t> {
 /// What a column without a dot means.
 #[tactic(auto, unfolding(crate::specs::Names::meant))]
 fn meant_by_name(scope: &[Scoped], name: &NameAt) -> Result<BoundColumn, BindFault>
-    ensures checks { Checks tells (column_check scope.now (plain (name_tree name.now)) ∷ []) result }
+    ensures checks { Checks bind_tells (column_check scope.now (plain (name_tree name.now)) ∷ []) result }
     ensures bound { IfOk result (λ c. c ≡ bound_column scope.now (plain (name_tree name.now))) }
 {
     let NameAt { name, at } = *name;
@@ -94,7 +94,7 @@ fn table_known<'s, 't>(scope: &'s [Scoped<'t>], name: &Name) -> Option<&'s Scope
 /// What a column behind a table's name means.
 #[tactic(auto, unfolding(crate::specs::Names::meant))]
 fn meant_behind(scope: &[Scoped], table: &NameAt, name: &NameAt) -> Result<BoundColumn, BindFault>
-    ensures checks { Checks tells (column_check scope.now (dotted (name_tree table.now) (name_tree name.now)) ∷ []) result }
+    ensures checks { Checks bind_tells (column_check scope.now (dotted (name_tree table.now) (name_tree name.now)) ∷ []) result }
     ensures bound { IfOk result (λ c. c ≡ bound_column scope.now (dotted (name_tree table.now) (name_tree name.now))) }
 {
     let at = table.at;
@@ -112,7 +112,7 @@ fn meant_behind(scope: &[Scoped], table: &NameAt, name: &NameAt) -> Result<Bound
 
 /// What a column means.
 pub(crate) fn meant(scope: &[Scoped], column: &Column) -> Result<BoundColumn, BindFault>
-    ensures checks { Checks tells (column_check scope.now (column_tree column.now) ∷ []) result }
+    ensures checks { Checks bind_tells (column_check scope.now (column_tree column.now) ∷ []) result }
     ensures bound { IfOk result (λ c. c ≡ bound_column scope.now (column_tree column.now)) }
 {
     match column {

@@ -1,10 +1,10 @@
 ghost use Rattle.std.specs.Prelude.{◌≡◌, [], ◌∷◌, ◌++◌, map, option_map, IfOk};
 ghost use Rattle.sql_bind.specs.Bound.{bound_select, select_over, where_of};
-ghost use Rattle.sql_bind.specs.Checks.{alike_checks, are_alike, is_text_item, scoped_checks, select_checks, selects_checks, tells, where_checks};
+ghost use Rattle.sql_bind.specs.Checks.{alike_checks, are_alike, is_text_item, scoped_checks, select_checks, selects_checks, bind_tells, where_checks};
 ghost use Rattle.sql_bind.specs.Names.{scope_of};
 ghost use Rattle.sql_bind.specs.View.{conditions_of, select_view, table_view};
 ghost use Rattle.sql_front.specs.View.{cond_tree};
-ghost use Rattle.sql_words.specs.Checks.{Checks};
+ghost use Rattle.grammar_laws.specs.Checks.{Checks};
 
 use crate::BindFault;
 use crate::bound::{BoundItem, BoundSelect, BoundTable, Condition};
@@ -31,7 +31,7 @@ fn where_part(
     scope: &[Scoped],
     condition: &Option<Cond>,
 ) -> Result<Items<Condition>, BindFault>
-    ensures checks { Checks tells (where_checks scope.now (option_map cond_tree condition.now)) result }
+    ensures checks { Checks bind_tells (where_checks scope.now (option_map cond_tree condition.now)) result }
     ensures conditions { IfOk result (λ cs. conditions_of cs ≡ where_of scope.now (option_map cond_tree condition.now)) }
 {
     let mut conjuncts = Items::new(alloc);
@@ -48,7 +48,7 @@ fn over_tables(
     scope: &[Scoped],
     select: &Select,
 ) -> Result<BoundSelect, BindFault>
-    ensures checks { Checks tells (scoped_checks scope.now select.now) result }
+    ensures checks { Checks bind_tells (scoped_checks scope.now select.now) result }
     ensures bound { IfOk result (λ s. select_view s ≡ select_over scope.now (map table_view tables) select.now) }
 {
     let conditions = where_part(alloc, scope, &select.condition)?;
@@ -70,7 +70,7 @@ pub(crate) fn select<'t>(
     names: &'t [NamedTable],
     select: &Select,
 ) -> Result<SelectPart<'t>, BindFault>
-    ensures checks { Checks tells (select_checks names.now select.now) result }
+    ensures checks { Checks bind_tells (select_checks names.now select.now) result }
     ensures bound { IfOk result (λ s. select_view s.select ≡ bound_select names.now select.now) }
     ensures scope { IfOk result (λ s. s.scope ≡ scope_of names.now select.now) }
 {
@@ -85,7 +85,7 @@ pub(crate) fn others(
     names: &[NamedTable],
     more: &[UnionAll],
 ) -> Result<Items<BoundSelect>, BindFault>
-    ensures checks { Checks tells (selects_checks names.now more.now) result }
+    ensures checks { Checks bind_tells (selects_checks names.now more.now) result }
     ensures bound { IfOk result (λ ss. map select_view ss ≡ map (λ u. bound_select names.now u.select) more.now) }
 {
     let mut selects = Items::from_vec(Vec::with_capacity(alloc, more.len())?);
@@ -126,7 +126,7 @@ pub(crate) fn check_alike(
     others: &[BoundSelect],
     more: &[UnionAll],
 ) -> Result<(), BindFault>
-    ensures { Checks tells (alike_checks first.now (map (λ s. s.items) others.now) more.now) result }
+    ensures { Checks bind_tells (alike_checks first.now (map (λ s. s.items) others.now) more.now) result }
 {
     for (other, next) in others.iter().zip(more) {
         if !are_alike(first, other.items.as_slice()) {

@@ -11,7 +11,7 @@ use Rattle.sql_front.specs.Reads.{Reading, runs, runs_on, refused_at}
 use Rattle.sql_front.specs.Seen.{Seen, seen, letters_of}
 use Rattle.sql_front.specs.Seen as w
 use Rattle.sql_front.specs.Tree.{NameAt, Column, dotted, named, CondTree, compare}
-use Rattle.sql_words.specs.Machine.{Stopped, on_step}
+use Rattle.grammar_laws.specs.Machine.{Stopped, on_step}
 
 -- ---- behind a column with its table's name no `.` is taken
 

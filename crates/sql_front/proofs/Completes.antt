@@ -20,7 +20,7 @@ use Rattle.sql_front.specs.Spell.{Marks, the, the_name, the_word, the_number, fi
 use Rattle.sql_front.specs.Spell.{spell_start, spell_select, spell_list, spell_items, spell_before, spell_from, spell_where, spell_columns, spell_group}
 use Rattle.sql_front.specs.Spell.{spell_key, spell_keys, spell_order, spell_limited, spell_opt, spell_options, spell_optioned, tables_before, tables_from}
 use Rattle.sql_front.specs.Tree.{NameAt, NumberAt, Column, plain, dotted, Side, named, positive, negative, UnitTree, negation, group, compare}
-use Rattle.sql_front.specs.Tree.{ConjTree, one_unit, and_unit, CondTree, one_conj, or_conj, Item, bare_item, count_item, fold_item, Table, bare, renamed_as}
+use Rattle.sql_front.specs.Tree.{ConjTree, one_unit, and_unit, CondTree, one_conj, or_conj, Item, bare_item, count_item, fold_item, FromTable, bare, renamed_as}
 use Rattle.sql_front.specs.Tree.{Join, inner, semi, anti, Start, union_all, Select, all_rows, ItemList, first_item, next_item, Items, every_column, listed}
 use Rattle.sql_front.specs.Tree.{Before, from, From, table, joined, Where, no_where, some_where, Columns, first_column, next_column, Group, no_group, group_by}
 use Rattle.sql_front.specs.Tree.{by_column, by_number, Key, unsaid, Keys, first_key, next_key, Order, no_order, order_by, Limited, no_limit, limit}
@@ -44,7 +44,7 @@ a_number = record { value = 0; at = 0 }
 abbrev a_column : Column
 a_column = plain a_name
 
-abbrev a_table : Table
+abbrev a_table : FromTable
 a_table = bare a_name
 
 abbrev a_side : Side
@@ -129,7 +129,7 @@ with_item : (i : Item) (k : ItemK) → Completes (said_item k ++ spell_item i)
 with_item i (first_item_k s) = with_list (first_item s i)
 with_item i (next_item_k is) = longer _ [] _ (simp (append_assoc, append-nil) refl) (with_list (next_item is i))
 
-with_table : (t : Table) (k : TableK) → Completes (said_table k ++ spell_table (tables_behind k) t)
+with_table : (t : FromTable) (k : TableK) → Completes (said_table k ++ spell_table (tables_behind k) t)
 with_table t (before_k b) = with_from (table b t)
 with_table t (join_k f j) = longer _ (the (w.Word kw.On) ∷ spell_cond 0 a_cond) _ (simp append_assoc refl) (with_from (joined f j t a_cond))
 

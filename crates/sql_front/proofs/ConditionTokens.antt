@@ -17,8 +17,8 @@ use Rattle.sql_front.specs.Seen.{Seen, seen, letters_of, seen_as, seen_word, wid
 use Rattle.sql_front.specs.Seen as w
 use Rattle.sql_front.specs.Tree.{UnitTree, negation, ConjTree, CondTree, Side, plain, negative, one_conj, or_conj}
 use Rattle.sql_front.specs.View.{negations}
-use Rattle.sql_words.specs.Machine.{Outcome, Stopped, on_step}
-use Rattle.sql_words.specs.Reading.{Refusal}
+use Rattle.grammar_laws.specs.Machine.{Outcome, Stopped, on_step}
+use Rattle.grammar_laws.specs.Reading.{Refusal}
 
 -- ---- sides
 

@@ -20,10 +20,10 @@ use Rattle.sql_front.specs.Reads.{Reading, refused_at, runs, runs_on, begin_wher
 use Rattle.sql_front.specs.Seen.{Seen, seen, seen_as, letters_of}
 use Rattle.sql_front.specs.Seen as w
 use Rattle.sql_front.specs.Spell.{fits_table, tables_from}
-use Rattle.sql_front.specs.Tree.{NameAt, Table, bare, renamed, renamed_as, Join, semi, anti, Before, From, table, no_where, Group, no_group, union_all}
+use Rattle.sql_front.specs.Tree.{NameAt, FromTable, bare, renamed, renamed_as, Join, semi, anti, Before, From, table, no_where, Group, no_group, union_all}
 use Rattle.sql_front.specs.View.{name_tree, table_tree, more_tables, next_table}
 use Rattle.sql_front.specs.Words.{unreserved}
-use Rattle.sql_words.specs.Machine.{Stopped}
+use Rattle.grammar_laws.specs.Machine.{Stopped}
 use Rattle.sql_front.proofs.Passing.{passes, passes_on, take_word, at_word, reads_word, passes_word, refuses_word}
 
 pub named_again : (n : NameAt) (k : TableK) (old new : Reading) (x : Name) → old.first.what ≡ what.Name x → old.rest ≡ new.first ∷ new.rest → new.text ≡ old.text
@@ -39,7 +39,7 @@ table_named k tables old new x is rest text behind fits =
 
 -- ---- ON
 
-on_only : (t : Table) (f : From) (j : Join) (s : Seen) → behind_names t (join_k f j) s ≡ begin_on t f j s
+on_only : (t : FromTable) (f : From) (j : Join) (s : Seen) → behind_names t (join_k f j) s ≡ begin_on t f j s
 on_only (bare n) f j s = refl
 on_only (renamed n m) f j (w.Name x at) = refl
 on_only (renamed n m) f j (w.Word kw.As) = refl
@@ -48,10 +48,10 @@ on_only (renamed_as n m) f j (w.Name x at) = refl
 on_only (renamed_as n m) f j (w.Word kw.As) = refl
 on_only (renamed_as n m) f j _ = refl
 
-pub wants_on : (t : Table) (f : From) (j : Join) (r : Reading) → runs_on (behind_names t (join_k f j)) r ≡ runs_on (begin_on t f j) r
+pub wants_on : (t : FromTable) (f : From) (j : Join) (r : Reading) → runs_on (behind_names t (join_k f j)) r ≡ runs_on (begin_on t f j) r
 wants_on t f j r = rw on_only refl
 
-pub on_passed : (t : Table) (f : From) (j : Join) (old new : Reading) → old.first.what ≡ what.Word kw.On → old.rest ≡ new.first ∷ new.rest → new.text ≡ old.text
+pub on_passed : (t : FromTable) (f : From) (j : Join) (old new : Reading) → old.first.what ≡ what.Word kw.On → old.rest ≡ new.first ∷ new.rest → new.text ≡ old.text
     → runs_on (behind_names t (join_k f j)) old ≡ runs (want_cond (on_k f j t)) new
 on_passed t f j old new is rest text = wants_on t f j old ∙ passes_on (begin_on t f j) (want_cond (on_k f j t)) (what.Word kw.On) old new is rest text refl refl
 

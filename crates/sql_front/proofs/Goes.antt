@@ -11,15 +11,15 @@ use Rattle.sql_front.specs.Seen as w
 use Rattle.sql_front.specs.Spell.{Marks, the, the_word, the_number, fits_limit, spell_column, spell_cond, spell_item, spell_table, spell_join, tables_before, tables_from}
 use Rattle.sql_front.specs.Spell.{spell_start, spell_select, spell_list, spell_items, spell_before, spell_from, spell_where, spell_columns, spell_group, spell_key, spell_keys, spell_order}
 use Rattle.sql_front.specs.Spell.{spell_limited, spell_opt, spell_options, spell_optioned, spell}
-use Rattle.sql_front.specs.Tree.{plain, dotted, Item, bare_item, count_item, fold_item, Join, inner, semi, anti, Table, CondTree, Start, at_first, union_all, Select, all_rows, distinct}
+use Rattle.sql_front.specs.Tree.{plain, dotted, Item, bare_item, count_item, fold_item, Join, inner, semi, anti, FromTable, CondTree, Start, at_first, union_all, Select, all_rows, distinct}
 use Rattle.sql_front.specs.Tree.{ItemList, first_item, next_item, Items, every_column, listed, Before, from, comma, From, table, joined, Where, no_where, some_where}
 use Rattle.sql_front.specs.Tree.{Columns, first_column, next_column, Group, no_group, group_by, Keys, first_key, next_key, Order, no_order, order_by, Limited, no_limit, limit}
 use Rattle.sql_front.specs.Tree.{Options, first_option, next_option, Optioned, no_options, options, Query, bare_query, ended_query}
 use Rattle.sql_front.proofs.Follows.{list_follows, items_follows, from_follows, where_follows, columns_follows, group_follows, keys_follows, order_follows, limited_follows, optioned_follows}
 use Rattle.sql_front.proofs.Follows.{list_limits, items_limits, from_limits, where_limits, columns_limits, group_limits, keys_limits, order_limits, limited_limits, optioned_limits}
 use Rattle.sql_front.proofs.GoesParts.{takes, NoDot, column_goes, cond_goes, item_goes, key_goes, opt_goes, table_goes, join_goes, union_goes}
-use Rattle.sql_words.specs.Machine.{go}
-use Rattle.sql_words.proofs.Reading.{same_bit-self}
+use Rattle.grammar_laws.specs.Machine.{go}
+use Rattle.grammar_laws.proofs.Reading.{same_bit-self}
 
 -- where the first item of a select is wanted
 abbrev pub behind_select : Select → State
@@ -44,7 +44,7 @@ join_is_no_dot inner rest = tt
 join_is_no_dot (semi left place) rest = tt
 join_is_no_dot (anti left place) rest = tt
 
-join_marks : (f : From) (j : Join) (n : Table) (c : CondTree) (rest : Marks)
+join_marks : (f : From) (j : Join) (n : FromTable) (c : CondTree) (rest : Marks)
     → spell_from (joined f j n c) ++ rest ≡ spell_from f ++ (spell_join j ++ (spell_table (tables_from f) n ++ the (w.Word kw.On) ∷ (spell_cond 0 c ++ rest)))
 join_marks f j n c rest = simp append_assoc refl
 

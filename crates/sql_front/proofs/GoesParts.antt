@@ -14,13 +14,13 @@ use Rattle.sql_front.specs.Seen.{Seen}
 use Rattle.sql_front.specs.Seen as w
 use Rattle.sql_front.specs.Spell.{Marks, the, the_word, spell_column, spell_side, spell_unit, spell_conj, spell_cond, spell_item, spell_table, spell_join, spell_key, spell_opt}
 use Rattle.sql_front.specs.Tree.{Column, plain, dotted, Side, named, positive, negative, quoted, UnitTree, negation, group, compare, ConjTree, one_unit, and_unit, CondTree, one_conj, or_conj}
-use Rattle.sql_front.specs.Tree.{Item, bare_item, count_item, fold_item, Table, bare, renamed, renamed_as, Join, inner, semi, anti, union_all, From, table, no_where}
+use Rattle.sql_front.specs.Tree.{Item, bare_item, count_item, fold_item, FromTable, bare, renamed, renamed_as, Join, inner, semi, anti, union_all, From, table, no_where}
 use Rattle.sql_front.specs.Tree.{Group, no_group, by_column, by_number, Key, unsaid, ascending, descending, Opt, sized, used}
 use Rattle.sql_front.proofs.Follows.{NotDot, left_follows, union_follows, side_follows, side_limits, from_follows, from_limits, group_limits}
 use Rattle.sql_front.specs.Words.{spelled}
 use Rattle.sql_front.proofs.Unreserved.{unreserved-spelled}
-use Rattle.sql_words.specs.Machine.{go}
-use Rattle.sql_words.proofs.Reading.{same_bit-self}
+use Rattle.grammar_laws.specs.Machine.{go}
+use Rattle.grammar_laws.proofs.Reading.{same_bit-self}
 
 -- a state that takes a token goes on over the marks behind it
 pub takes : (st : State) (t : Seen) (next : Option State) (rest : Marks) → limits st t ≡ true → step st t ≡ next
@@ -139,7 +139,7 @@ opt_goes (used at m.Hash place) k rest = rw (unreserved-spelled u.Use, unreserve
 
 -- ---- tables, joins and UNION ALL
 
-pub table_goes : (n : Table) (k : TableK) (rest : Marks) → go step limits (want_table k) (spell_table (tables_behind k) n ++ rest) ≡ go step limits (after_table n k) rest
+pub table_goes : (n : FromTable) (k : TableK) (rest : Marks) → go step limits (want_table k) (spell_table (tables_behind k) n ++ rest) ≡ go step limits (after_table n k) rest
 table_goes (bare n) k rest = rw same_bit-self refl
 table_goes (renamed n second) k rest = rw same_bit-self refl
 table_goes (renamed_as n second) k rest = rw same_bit-self refl

@@ -8,7 +8,7 @@ use Rattle.sql_front.specs.Seen.{Seen, seen, seen_as}
 use Rattle.sql_front.specs.Seen as w
 use Rattle.sql_front.specs.Tree.{ItemList, next_item}
 use Rattle.sql_front.specs.View.{item_tree, more_items}
-use Rattle.sql_words.specs.Machine.{Stopped, on_step}
+use Rattle.grammar_laws.specs.Machine.{Stopped, on_step}
 use Rattle.sql_tokens.specs.declared.token.Keyword.TheVariants as kw
 use Rattle.sql_tokens.specs.declared.token.Token.{Token}
 use Rattle.sql_tokens.specs.declared.token.What.{What}

@@ -14,8 +14,8 @@ use Rattle.sql_front.specs.Spell.{between}
 use Rattle.sql_front.specs.Tail.{at_number}
 use Rattle.sql_front.specs.Tree.{NumberAt}
 use Rattle.sql_front.specs.Words.{unreserved}
-use Rattle.sql_words.specs.Machine.{Outcome, Stopped, on_step}
-use Rattle.sql_words.specs.Reading.{Refusal}
+use Rattle.grammar_laws.specs.Machine.{Outcome, Stopped, on_step}
+use Rattle.grammar_laws.specs.Reading.{Refusal}
 
 pub passes : (st next : State) (token : What) (old new : Reading) → old.first.what ≡ token → old.rest ≡ new.first ∷ new.rest → new.text ≡ old.text
     → limits st (seen_as old.text token old.first.at) ≡ true → step st (seen_as old.text token old.first.at) ≡ Some next → runs st old ≡ runs next new

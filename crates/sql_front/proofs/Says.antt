@@ -15,7 +15,7 @@ use Rattle.sql_front.specs.Machine.{ColumnK, item_k, fold_k, side_k, group_k, ke
 use Rattle.sql_front.specs.Machine.{after_star, after_items, want_table, after_table, as_word, left_word, join_word, union_word, want, negated, beside, right, after}
 use Rattle.sql_front.specs.Machine.{want_column, after_column, after_dot, group_word, order_word, want_key, after_number, after_keys, limit_word, after_limit}
 use Rattle.sql_front.specs.Machine.{option_word, want_opt, sized_word, used_word, after_opts, after_options, after_semicolon, ended, open_unit, open_conj, open_cond, tables_behind}
-use Rattle.sql_front.specs.Machine.{add_item, add_column, add_key, add_opt, give, behind, behind_side, joined_cond, below, begin, step, sign_of, limits}
+use Rattle.sql_front.specs.Machine.{add_item, add_column, add_key, add_opt, give, behind, behind_side, joined_cond, below, begin, step, sign_place_of, limits}
 use Rattle.sql_front.specs.Machine.{more_optioned, more_limited, more_order, begin_union, more_group, more_where, begin_left, more_from, follow_cond, follow_conj, follow_left, follow_side}
 use Rattle.sql_front.specs.Machine.{follow_items, follow_columns, follow_keys, follow_key, follow_fold, follow_column, begin_dotted, begin_as, begin_more, follow_named, begin_on, behind_table}
 use Rattle.sql_front.specs.Machine.{follow_table, begin_join, begin_select, begin_star, begin_item, begin_side, begin_unit, begin_key, begin_opt, method_of, use_method, follow_opts}
@@ -25,7 +25,7 @@ use Rattle.sql_front.specs.Seen as w
 use Rattle.sql_front.specs.Spell.{Marks, the, spell_side, spell_column, spell_unit, spell_conj, spell_cond, spell_item, spell_table, spell_list, spell_from, spell_where}
 use Rattle.sql_front.specs.Spell.{method_word, spell_columns, spell_group, spell_key_of, spell_key, spell_keys, spell_order, spell_limited, spell_opt, spell_options, spell_optioned}
 use Rattle.sql_front.specs.Tree.{NameAt, Column, plain, dotted, Side, named, positive, negative, quoted, UnitTree, negation, group, compare, ConjTree, CondTree, Item, bare_item, count_item, fold_item}
-use Rattle.sql_front.specs.Tree.{Table, bare, renamed, renamed_as, Join, inner, semi, anti, ItemList, Before, From, table, joined, Where, no_where, some_where, Columns, Group, no_group, group_by}
+use Rattle.sql_front.specs.Tree.{FromTable, bare, renamed, renamed_as, Join, inner, semi, anti, ItemList, Before, From, table, joined, Where, no_where, some_where, Columns, Group, no_group, group_by}
 use Rattle.sql_front.specs.Tree.{KeyOf, by_column, by_number, unsaid, ascending, descending, all_rows, Key, Keys, Order, no_order, order_by, Limited, no_limit, limit, Opt, sized, used, Options, Optioned, no_options, options, Query}
 use Rattle.sql_front.specs.Words.{spelled, unreserved}
 
@@ -36,7 +36,7 @@ plainly = limits begin
 -- The state behind a token, if there is one, says the token, so allowed, behind what was said before it, and knows whether it
 -- is a `-`.
 abbrev Adds : Option State → Marks → Seen → Bool → Type 0
-Adds next before t bit = IfSome next (λ st. (said st ≡ before ++ (t, bit) ∷ []) × (sign_of st ≡ minus_of t))
+Adds next before t bit = IfSome next (λ st. (said st ≡ before ++ (t, bit) ∷ []) × (sign_place_of st ≡ minus_of t))
 
 -- the same behind marks that are the same
 behind_same : (next : Option State) (t : Seen) (before same : Marks) → before ≡ same → Adds next same t (plainly t) → Adds next before t (plainly t)
@@ -53,7 +53,7 @@ said_behind_side : (k : SideK) (side : Side) → said (behind_side side k) ≡ s
 said_behind_side (left_k k) side = refl
 said_behind_side (right_k l op at k) side = said_give k (compare l op at side) ∙ simp append_assoc refl
 
-sign_behind_side : (k : SideK) (side : Side) → sign_of (behind_side side k) ≡ None
+sign_behind_side : (k : SideK) (side : Side) → sign_place_of (behind_side side k) ≡ None
 sign_behind_side (left_k k) side = refl
 sign_behind_side (right_k l op at k) side = refl
 
@@ -179,7 +179,7 @@ follow_opts-adds os _ = tt
 
 -- ---- behind a table
 
-begin_as-adds : (t : Table) (k : TableK) → Adds (begin_as t k) (said_table k ++ spell_table (tables_behind k) t) (w.Word kw.As) true
+begin_as-adds : (t : FromTable) (k : TableK) → Adds (begin_as t k) (said_table k ++ spell_table (tables_behind k) t) (w.Word kw.As) true
 begin_as-adds (bare n) k = (simp append_assoc refl, refl)
 begin_as-adds _ k = tt
 
@@ -190,21 +190,21 @@ begin_more-adds b n m (Some u.Left) x at (Some u.Anti) was is = (rw (was, is) (s
 begin_more-adds b n m (Some u.Union) x at (Some u.All) was is = (rw (was, is) (simp append_assoc refl), refl)
 begin_more-adds b n m _ x at word was is = begin_left-adds (table b (renamed n m)) x at word is
 
-follow_named-adds : (t : Table) (k : TableK) (x : List ℕ) (at : ℕ) → Adds (follow_named t k x at) (said_table k ++ spell_table (tables_behind k) t) (w.Name x at) true
+follow_named-adds : (t : FromTable) (k : TableK) (x : List ℕ) (at : ℕ) → Adds (follow_named t k x at) (said_table k ++ spell_table (tables_behind k) t) (w.Name x at) true
 follow_named-adds (bare n) k x at = (simp append_assoc refl, refl)
 follow_named-adds (renamed n m) (before_k b) x at = begin_more-adds b n m (unreserved m.letters) x at (unreserved x) (unreserved-names m.letters) (unreserved-names x)
 follow_named-adds (renamed_as n m) (before_k b) x at = begin_left-adds (table b (renamed_as n m)) x at (unreserved x) (unreserved-names x)
 follow_named-adds _ (join_k f j) x at = tt
 
-begin_on-adds : (t : Table) (f : From) (j : Join) (s : Seen) → Adds (begin_on t f j s) (said_table (join_k f j) ++ spell_table (tables_behind (join_k f j)) t) s (plainly s)
+begin_on-adds : (t : FromTable) (f : From) (j : Join) (s : Seen) → Adds (begin_on t f j s) (said_table (join_k f j) ++ spell_table (tables_behind (join_k f j)) t) s (plainly s)
 begin_on-adds t f j (w.Word kw.On) = (simp append_assoc refl, refl)
 begin_on-adds t f j _ = tt
 
-behind_table-adds : (t : Table) (k : TableK) (s : Seen) → Adds (behind_table t k s) (said_table k ++ spell_table (tables_behind k) t) s (plainly s)
+behind_table-adds : (t : FromTable) (k : TableK) (s : Seen) → Adds (behind_table t k s) (said_table k ++ spell_table (tables_behind k) t) s (plainly s)
 behind_table-adds t (before_k b) s = more_from-adds (table b t) s
 behind_table-adds t (join_k f j) s = begin_on-adds t f j s
 
-follow_table-adds : (t : Table) (k : TableK) (s : Seen) → Adds (follow_table t k s) (said_table k ++ spell_table (tables_behind k) t) s (plainly s)
+follow_table-adds : (t : FromTable) (k : TableK) (s : Seen) → Adds (follow_table t k s) (said_table k ++ spell_table (tables_behind k) t) s (plainly s)
 follow_table-adds t k (w.Name x at) = follow_named-adds t k x at
 follow_table-adds t k (w.Word kw.As) = begin_as-adds t k
 follow_table-adds t k s = behind_table-adds t k s
@@ -328,7 +328,7 @@ pub says : (st : State) (t : Seen) → IfSome (step st t) (λ next. said next �
 says st t = IfSome_then (step st t) (adds st t) (λ next both. both.0)
 
 -- the state behind a `-` knows its place, and no other state knows one
-pub signs : (st : State) (t : Seen) → IfSome (step st t) (λ next. sign_of next ≡ minus_of t)
+pub signs : (st : State) (t : Seen) → IfSome (step st t) (λ next. sign_place_of next ≡ minus_of t)
 signs st t = IfSome_then (step st t) (adds st t) (λ next both. both.1)
 
 pub ended_once : (tree other : Query) → ended tree ≡ ended other → tree ≡ other

@@ -23,7 +23,7 @@ use Rattle.sql_front.specs.Tail.{take_number, at_number, key_behind, option_behi
 use Rattle.sql_front.specs.Tree.{NumberAt, Group, by_number, Keys, first_key, next_key, Order, order_by, Limited, limit, sized, used, Options, first_option, next_option, options}
 use Rattle.sql_front.specs.View.{number_tree, key_tree, more_keys, order_tree, opt_tree, more_options, options_tree}
 use Rattle.sql_front.proofs.Passing.{take_word, at_word, reads_word, passes_word, refuses_word}
-use Rattle.sql_words.specs.Machine.{Stopped}
+use Rattle.grammar_laws.specs.Machine.{Stopped}
 
 -- ---- numbers
 

@@ -14,14 +14,14 @@ use Rattle.sql_front.specs.Seen.{Seen, seen, wide, words}
 use Rattle.sql_front.specs.Seen as w
 use Rattle.sql_front.specs.Spell.{may_open, fits_table, fits_limit, fits_key, fits_setting, tables_before, tables_from}
 use Rattle.sql_front.specs.Tree.{NameAt, NumberAt, Column, plain, dotted, Side, named, positive, negative, quoted, UnitTree, negation, group, compare}
-use Rattle.sql_front.specs.Tree.{ConjTree, one_unit, and_unit, CondTree, one_conj, or_conj, Item, bare_item, count_item, fold_item, Table, bare, renamed, renamed_as}
+use Rattle.sql_front.specs.Tree.{ConjTree, one_unit, and_unit, CondTree, one_conj, or_conj, Item, bare_item, count_item, fold_item, FromTable, bare, renamed, renamed_as}
 use Rattle.sql_front.specs.Tree.{Join, inner, semi, anti, Start, at_first, union_all, Select, all_rows, distinct, ItemList, first_item, next_item, Items, every_column, listed}
 use Rattle.sql_front.specs.Tree.{Before, from, comma, From, table, joined, Where, no_where, some_where, Columns, first_column, next_column, Group, no_group, group_by}
 use Rattle.sql_front.specs.Tree.{KeyOf, by_column, by_number, Key, unsaid, ascending, descending, Keys, first_key, next_key, Order, no_order, order_by, Limited, no_limit, limit}
 use Rattle.sql_front.specs.Tree.{Opt, sized, used, Options, first_option, next_option, Optioned, no_options, options, Query, bare_query, ended_query}
 use Rattle.sql_front.specs.Words.{unreserved}
-use Rattle.sql_words.specs.Machine.{Outcome, run}
-use Rattle.sql_words.specs.Reading.{Refusal, refusal_at}
+use Rattle.grammar_laws.specs.Machine.{Outcome, run}
+use Rattle.grammar_laws.specs.Reading.{Refusal, refusal_at}
 
 -- ---- what waits for a part that is being read
 
@@ -40,7 +40,7 @@ mutual
   -- for a condition
   pub data CondK : Type 0 where
     paren_k : UnitK → CondK
-    on_k : From → Join → Table → CondK
+    on_k : From → Join → FromTable → CondK
     where_k : From → CondK
 
 -- for a side
@@ -113,7 +113,7 @@ pub data State : Type 0 where
   after_items : ItemList → State
   -- a table is wanted, was read, AS behind it was
   want_table : TableK → State
-  after_table : Table → TableK → State
+  after_table : FromTable → TableK → State
   as_word : NameAt → TableK → State
   -- LEFT was read; SEMI or ANTI behind it, so that JOIN is wanted; UNION was
   left_word : From → ℕ → State
@@ -287,7 +287,7 @@ abbrev pub begin_dotted : Column → ColumnK → Option State
 begin_dotted (plain n) k = Some (after_dot n k)
 begin_dotted (dotted t n) k = None
 
-abbrev pub begin_as : Table → TableK → Option State
+abbrev pub begin_as : FromTable → TableK → Option State
 begin_as (bare n) k = Some (as_word n k)
 begin_as _ k = None
 
@@ -299,21 +299,21 @@ begin_more b n m (Some u.Left) at (Some u.Anti) = Some (join_word (table b (bare
 begin_more b n m (Some u.Union) at (Some u.All) = Some (want_select (union_all (no_group (no_where (table b (bare n)))) m.at at))
 begin_more b n m _ at word = begin_left (table b (renamed n m)) at word
 
-abbrev pub follow_named : Table → TableK → List ℕ → ℕ → Option State
+abbrev pub follow_named : FromTable → TableK → List ℕ → ℕ → Option State
 follow_named (bare n) k x at = Some (after_table (renamed n (record { letters = x; at = at })) k)
 follow_named (renamed n m) (before_k b) x at = begin_more b n m (unreserved m.letters) at (unreserved x)
 follow_named (renamed_as n m) (before_k b) x at = begin_left (table b (renamed_as n m)) at (unreserved x)
 follow_named _ (join_k f j) x at = None
 
-abbrev pub begin_on : Table → From → Join → Seen → Option State
+abbrev pub begin_on : FromTable → From → Join → Seen → Option State
 begin_on t f j (w.Word kw.On) = Some (want_cond (on_k f j t))
 begin_on t f j _ = None
 
-abbrev pub behind_table : Table → TableK → Seen → Option State
+abbrev pub behind_table : FromTable → TableK → Seen → Option State
 behind_table t (before_k b) s = more_from (table b t) s
 behind_table t (join_k f j) s = begin_on t f j s
 
-abbrev pub follow_table : Table → TableK → Seen → Option State
+abbrev pub follow_table : FromTable → TableK → Seen → Option State
 follow_table t k (w.Name x at) = follow_named t k x at
 follow_table t k (w.Word kw.As) = begin_as t k
 follow_table t k s = behind_table t k s
@@ -424,9 +424,9 @@ step (after_semicolon p) w.End = Some (ended (ended_query p))
 step _ _ = None
 
 -- the place of a `-` that was read last
-abbrev pub sign_of : State → Option ℕ
-sign_of (negated at k) = Some at
-sign_of _ = None
+abbrev pub sign_place_of : State → Option ℕ
+sign_place_of (negated at k) = Some at
+sign_place_of _ = None
 
 -- whether the limits allow a token there: a table's name, NOT and `(`, a number
 abbrev pub number_limit : (ℕ → Bool) → Seen → Bool
@@ -456,7 +456,7 @@ limits (negated at k) t = number_limit (λ n. not (wide true n)) t
 limits _ t = free_limit t
 
 abbrev pub answer : List ℕ → State → Token → List Token → Refusal
-answer text st = refusal_at (words text) (sign_of st)
+answer text st = refusal_at (words text) (sign_place_of st)
 
 -- where a query begins
 abbrev pub begin : State

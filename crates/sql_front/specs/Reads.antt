@@ -19,20 +19,20 @@ use Rattle.sql_front.specs.Machine.{State, want_cond, want_table, want_select, o
 use Rattle.sql_front.specs.Machine.{ItemK, TableK, before_k, join_k, give, follow_conj, follow_table, behind_table, begin_item, more_where, more_order}
 use Rattle.sql_front.specs.Seen.{Seen, seen, words}
 use Rattle.sql_front.specs.Seen as w
-use Rattle.sql_front.specs.Tree.{UnitTree, CondTree, one_conj, or_conj, Items, from, comma, From, Table, bare, no_where, Group, no_group, no_order, Query, union_all}
+use Rattle.sql_front.specs.Tree.{UnitTree, CondTree, one_conj, or_conj, Items, from, comma, From, FromTable, bare, no_where, Group, no_group, no_order, Query, union_all}
 use Rattle.sql_front.specs.View.{and_last, or_last, join_tree}
 use Rattle.sql_front.specs.Words.{unreserved}
-use Rattle.sql_words.specs.Machine.{Outcome, Read, Stopped, on_step, outcome}
-use Rattle.sql_words.specs.Reading.{Refusal, Syntax, WideLiteral, refusal_at}
+use Rattle.grammar_laws.specs.Machine.{Outcome, Read, Stopped, on_step, outcome}
+use Rattle.grammar_laws.specs.Reading.{Refusal, Syntax, WideLiteral, refusal_at}
 use Rattle.sql_tokens.specs.declared.token.What.TheVariants as what
 use Rattle.sql_front.specs.declared.words.Comparison.{Comparison}
 use Rattle.sql_front.specs.declared.words.Comparison.TheVariants as op
 
--- the refusal that a fault tells of; want of memory tells of none
-abbrev pub tells : ParseFault → Option Refusal
-tells (fault.Syntax at) = Some (Syntax at)
-tells (fault.WideLiteral at) = Some (WideLiteral at)
-tells fault.Memory = None
+-- the refusal that a fault parse_tells of; want of memory parse_tells of none
+abbrev pub parse_tells : ParseFault → Option Refusal
+parse_tells (fault.Syntax at) = Some (Syntax at)
+parse_tells (fault.WideLiteral at) = Some (WideLiteral at)
+parse_tells fault.Memory = None
 
 -- a text that is being read: its first token that is still to come, and those behind it
 pub record Reading : Type 0 where
@@ -60,9 +60,9 @@ runs_on more r =
 abbrev pub has_read : Query → Reading → Outcome State
 has_read q r = Read (ended q)
 
--- From where it stands over the old tokens a run goes as from behind the value over the new ones, or it stops as the fault tells.
+-- From where it stands over the old tokens a run goes as from behind the value over the new ones, or it stops as the fault parse_tells.
 abbrev pub Leads : {X : Type 0} → (Reading → Outcome State) → Reading → Result X ParseFault → (X → Reading → Outcome State) → Reading → Type 0
-Leads stands old result behind new = stands old ≡ outcome tells (stands old) result (λ x. behind x new)
+Leads stands old result behind new = stands old ≡ outcome parse_tells (stands old) result (λ x. behind x new)
 
 -- ---- what may follow the parts that functions of the parser read
 
@@ -81,7 +81,7 @@ begin_from i (w.Word kw.From) = Some (want_table (before_k (from i)))
 begin_from i t = None
 
 -- a table: one name has no second one behind it
-abbrev pub behind_names : Table → TableK → Seen → Option State
+abbrev pub behind_names : FromTable → TableK → Seen → Option State
 behind_names (bare n) k t = behind_table (bare n) k t
 behind_names names k t = follow_table names k t
 

@@ -11,7 +11,7 @@ use Rattle.sql_front.specs.declared.words.Aggregate.{Aggregate}
 use Rattle.sql_front.specs.declared.words.Aggregate.TheVariants as a
 use Rattle.sql_front.specs.declared.words.Comparison.{Comparison}
 use Rattle.sql_front.specs.declared.words.Comparison.TheVariants as c
-use Rattle.sql_words.specs.Reading.{Words}
+use Rattle.grammar_laws.specs.Reading.{Words}
 
 pub data Seen : Type 0 where
   Select : ℕ → Seen

@@ -10,13 +10,13 @@ use Rattle.sql_front.specs.declared.words.Unreserved.TheVariants as u
 use Rattle.sql_front.specs.Seen.{Seen, wide}
 use Rattle.sql_front.specs.Seen as w
 use Rattle.sql_front.specs.Tree.{NameAt, NumberAt, Column, plain, dotted, Side, named, positive, negative, quoted, UnitTree, negation, group, compare}
-use Rattle.sql_front.specs.Tree.{ConjTree, one_unit, and_unit, CondTree, one_conj, or_conj, Item, bare_item, count_item, fold_item, Table, bare, renamed, renamed_as}
+use Rattle.sql_front.specs.Tree.{ConjTree, one_unit, and_unit, CondTree, one_conj, or_conj, Item, bare_item, count_item, fold_item, FromTable, bare, renamed, renamed_as}
 use Rattle.sql_front.specs.Tree.{Join, inner, semi, anti, Start, at_first, union_all, Select, all_rows, distinct, ItemList, first_item, next_item, Items, every_column, listed}
 use Rattle.sql_front.specs.Tree.{Before, from, comma, From, table, joined, Where, no_where, some_where, Columns, first_column, next_column, Group, no_group, group_by}
 use Rattle.sql_front.specs.Tree.{KeyOf, by_column, by_number, Key, unsaid, ascending, descending, Keys, first_key, next_key, Order, no_order, order_by, Limited, no_limit, limit}
 use Rattle.sql_front.specs.Tree.{Opt, sized, used, Options, first_option, next_option, Optioned, no_options, options, Query, bare_query, ended_query}
 use Rattle.sql_front.specs.Words.{spelled}
-use Rattle.sql_words.specs.Reading.{Mark}
+use Rattle.grammar_laws.specs.Reading.{Mark}
 
 abbrev pub Marks : Type 0
 Marks = List (Mark Seen)
@@ -92,7 +92,7 @@ spell_item (count_item at) = the (w.Word kw.Count) ∷ the w.Open ∷ the (w.Sta
 spell_item (fold_item f at c) = the (w.Fold f at) ∷ the w.Open ∷ (spell_column c ++ the w.Close ∷ [])
 
 -- a table behind so many others
-abbrev pub spell_table : ℕ → Table → Marks
+abbrev pub spell_table : ℕ → FromTable → Marks
 spell_table tables (bare n) = (w.Name n.letters n.at, fits_table tables) ∷ []
 spell_table tables (renamed n m) = (w.Name n.letters n.at, fits_table tables) ∷ the_name m ∷ []
 spell_table tables (renamed_as n m) = (w.Name n.letters n.at, fits_table tables) ∷ the (w.Word kw.As) ∷ the_name m ∷ []

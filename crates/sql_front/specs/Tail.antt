@@ -8,7 +8,7 @@ use Rattle.sql_front.specs.Seen.{Seen, seen}
 use Rattle.sql_front.specs.Seen as w
 use Rattle.sql_front.specs.Tree.{NumberAt, Group, first_key, Limited, first_option}
 use Rattle.sql_front.specs.View.{key_tree, more_keys, opt_tree, more_options}
-use Rattle.sql_words.specs.Machine.{Outcome, Stopped, on_step}
+use Rattle.grammar_laws.specs.Machine.{Outcome, Stopped, on_step}
 
 -- where nothing but a number may stand, and the state behind it
 abbrev pub take_number : (NumberAt → State) → Seen → Option State

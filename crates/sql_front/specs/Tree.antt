@@ -66,10 +66,10 @@ pub data Item : Type 0 where
   fold_item : Aggregate → ℕ → Column → Item
 
 -- table := name [[AS] name]
-pub data Table : Type 0 where
-  bare : NameAt → Table
-  renamed : NameAt → NameAt → Table
-  renamed_as : NameAt → NameAt → Table
+pub data FromTable : Type 0 where
+  bare : NameAt → FromTable
+  renamed : NameAt → NameAt → FromTable
+  renamed_as : NameAt → NameAt → FromTable
 
 -- JOIN | LEFT SEMI JOIN | LEFT ANTI JOIN, with the places of the words that are names elsewhere
 pub data Join : Type 0 where
@@ -106,8 +106,8 @@ mutual
 
   -- table {more}
   pub data From : Type 0 where
-    table : Before → Table → From
-    joined : From → Join → Table → CondTree → From
+    table : Before → FromTable → From
+    joined : From → Join → FromTable → CondTree → From
 
   -- [WHERE cond]
   pub data Where : Type 0 where

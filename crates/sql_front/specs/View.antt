@@ -95,7 +95,7 @@ item_tree (item.Column c) = tree.bare_item (column_tree c)
 item_tree (item.Count at) = tree.count_item at
 item_tree (item.Fold f at c) = tree.fold_item f at (column_tree c)
 
-abbrev pub table_tree : Table → tree.Table
+abbrev pub table_tree : Table → tree.FromTable
 table_tree (table.Bare n) = tree.bare (name_tree n)
 table_tree (table.Renamed n m) = tree.renamed (name_tree n) (name_tree m)
 table_tree (table.RenamedAs n m) = tree.renamed_as (name_tree n) (name_tree m)

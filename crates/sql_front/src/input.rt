@@ -2,7 +2,7 @@ ghost use Rattle.std.specs.Prelude.{◌≡◌, ◌≤◌, ◌<◌, ◌+◌, ◌-
 ghost use Rattle.sql_tokens.specs.Tokens.{is_last, tokens_of};
 ghost use Rattle.sql_tokens.specs.declared.token.What.TheVariants as what;
 ghost use Rattle.sql_tokens.specs.Text.{text_content};
-ghost use Rattle.sql_front.specs.Reads.{tells, refused_at};
+ghost use Rattle.sql_front.specs.Reads.{parse_tells, refused_at};
 ghost use Rattle.sql_front.specs.Seen.{wide};
 
 use crate::ParseFault;
@@ -71,7 +71,7 @@ impl<'t> Input<'t> {
 
     /// Why the first token is refused, behind a `-` at this place if there is one.
     pub(crate) fn refuse(&mut self, signed: Option<u32>) -> ParseFault
-        ensures told { tells result ≡ Some (refused_at signed self.old) }
+        ensures told { parse_tells result ≡ Some (refused_at signed self.old) }
     {
         let Token { what, at } = self.peek();
         match what {
@@ -87,7 +87,7 @@ impl<'t> Input<'t> {
     fn refuse_minus(&mut self, at: u32) -> ParseFault
         requires minus { self.old.first.what ≡ what.Minus }
         requires place { self.old.first.at ≡ at }
-        ensures told { (signed : Option ℕ) → tells result ≡ Some (refused_at signed self.old) }
+        ensures told { (signed : Option ℕ) → parse_tells result ≡ Some (refused_at signed self.old) }
     {
         self.advance();
         match self.peek().what {

@@ -1,12 +1,12 @@
 ghost use Rattle.std.specs.Prelude.{◌≡◌, ◌<◌, ◌≤◌, ◌-◌, ◌^◌, length, IfOk};
 ghost use Rattle.sql_tokens.specs.Tokens.{tokens_of};
 ghost use Rattle.sql_front.specs.Machine.{begin, want_select};
-ghost use Rattle.sql_front.specs.Reads.{Leads, runs, runs_on, begin_order, at_union, has_read, tells};
+ghost use Rattle.sql_front.specs.Reads.{Leads, runs, runs_on, begin_order, at_union, has_read, parse_tells};
 ghost use Rattle.sql_front.specs.Seen.{words};
 ghost use Rattle.sql_front.specs.Spell.{spell, tables_group};
 ghost use Rattle.sql_front.specs.View.{more_selects, query_tree, select_tree, order_tree, limit_tree, options_tree, end_tree};
 ghost use Rattle.sql_front.specs.Tree.{Group, at_first, union_all};
-ghost use Rattle.sql_words.specs.Reading.{Found, Only, Refused, OnlyRefused};
+ghost use Rattle.grammar_laws.specs.Reading.{Found, Only, Refused, OnlyRefused};
 
 use crate::ParseFault;
 use crate::input::Input;
@@ -152,10 +152,10 @@ fn query(alloc: Global, input: &mut Input) -> Result<Query, ParseFault>
 /// that can't continue any query, or as a literal there that isn't in 128 signed bits.
 pub fn parse(alloc: Global, text: &str) -> Result<Query, ParseFault>
     requires { length text.now < 2 ^ 32 - 1 }
-    ensures found { Found (words text.now) spell query_tree tells (tokens_of text.now) result }
-    ensures only { Only (words text.now) spell query_tree tells (tokens_of text.now) result }
-    ensures refused { Refused (words text.now) spell query_tree tells (tokens_of text.now) result }
-    ensures only_refused { OnlyRefused (words text.now) spell query_tree tells (tokens_of text.now) result }
+    ensures found { Found (words text.now) spell query_tree parse_tells (tokens_of text.now) result }
+    ensures only { Only (words text.now) spell query_tree parse_tells (tokens_of text.now) result }
+    ensures refused { Refused (words text.now) spell query_tree parse_tells (tokens_of text.now) result }
+    ensures only_refused { OnlyRefused (words text.now) spell query_tree parse_tells (tokens_of text.now) result }
 {
     let mut input = Input::new(text);
     query(alloc, &mut input)

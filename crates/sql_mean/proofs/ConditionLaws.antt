@@ -11,7 +11,7 @@ use Rattle.qsr_value.proofs.ValueOrder.{values_total}
 use Rattle.sql_bind.specs.Bound.{BoundSelect, Condition, Conditions, none, and_then, compared}
 use Rattle.sql_bind.specs.declared.bound.Operand.{Operand}
 use Rattle.sql_front.specs.declared.words.Comparison.TheVariants as op
-use Rattle.sql_mean.specs.Laws.{conjuncts, opposites, with_where}
+use Rattle.sql_mean.specs.Laws.{conjuncts, opposites_of_each, with_where}
 use Rattle.sql_mean.specs.Meaning.{Joined, Lists, holds, all_hold, any_holds, distinct_rows, joined_all, says, select_bag, shown, value_of}
 
 and_not : (a b c : Bool) → ((a && b) && not c) ≡ (a && not (not b || c))
@@ -48,6 +48,6 @@ not_or : (a b : Bool) → not (a || b) ≡ (not a && not b)
 not_or true b = refl
 not_or false b = refl
 
-pub not_any : (env : Joined) (cs : Conditions) → not (any_holds env cs) ≡ all_hold env (opposites cs)
+pub not_any : (env : Joined) (cs : Conditions) → not (any_holds env cs) ≡ all_hold env (opposites_of_each cs)
 not_any env none = refl
 not_any env (and_then cs c) = not_or (any_holds env cs) (holds env c) ∙ ap (λ b. b && not (holds env c)) (not_any env cs)

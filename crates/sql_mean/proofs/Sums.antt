@@ -6,15 +6,15 @@ use Rattle.std.proofs.Math.IntN.{+ℤ_assoc, +ℤ_comm}
 use Rattle.std.proofs.lemmas.List.{map-append, take-map, take_more}
 use Rattle.qsr_value.specs.declared.row.Value.{Value}
 use Rattle.sql_mean.specs.Fits.{SumsFit}
-use Rattle.sql_mean.specs.Meaning.{Joined, number_of, sum_of}
+use Rattle.sql_mean.specs.Meaning.{Joined, value_number, sum_of}
 
-one_more : (vs : List Value) (v : Value) → sum_of (vs ++ v ∷ []) ≡ sum_of vs +ℤ number_of v
-one_more [] v = +ℤ_comm (number_of v) (pos 0)
-one_more (w ∷ vs) v = ap (λ (n : ℤ). number_of w +ℤ n) (one_more vs v) ∙ sym (+ℤ_assoc (number_of w) (sum_of vs) (number_of v))
+one_more : (vs : List Value) (v : Value) → sum_of (vs ++ v ∷ []) ≡ sum_of vs +ℤ value_number v
+one_more [] v = +ℤ_comm (value_number v) (pos 0)
+one_more (w ∷ vs) v = ap (λ (n : ℤ). value_number w +ℤ n) (one_more vs v) ∙ sym (+ℤ_assoc (value_number w) (sum_of vs) (value_number v))
 
 -- the sum so far and the next value
 pub next_sum : (f : Joined → Value) (envs : List Joined) (i : ℕ) (env : Joined) (sum number : ℤ) → i < length envs → env ≡ get_or envs i env
-    → sum ≡ sum_of (map f (take i envs)) → number ≡ number_of (f env) → sum +ℤ number ≡ sum_of (map f (take (i + 1) envs))
+    → sum ≡ sum_of (map f (take i envs)) → number ≡ value_number (f env) → sum +ℤ number ≡ sum_of (map f (take (i + 1) envs))
 next_sum f envs i env sum number low is so_far value =
     ap (λ (n : ℤ). n +ℤ number) so_far ∙ ap (λ (n : ℤ). sum_of (map f (take i envs)) +ℤ n) value
     ∙ sym (one_more (map f (take i envs)) (f env))

@@ -16,9 +16,9 @@ both before none = before
 both before (and_then cs c) = and_then (both before cs) c
 
 -- NOT before each of some conditions
-abbrev pub opposites : Conditions → Conditions
-opposites none = none
-opposites (and_then cs c) = and_then (opposites cs) (opposite c)
+abbrev pub opposites_of_each : Conditions → Conditions
+opposites_of_each none = none
+opposites_of_each (and_then cs c) = and_then (opposites_of_each cs) (opposite c)
 
 -- ---- queries
 

@@ -109,13 +109,13 @@ abbrev pub place_among : BoundColumn → List BoundColumn → ℕ
 place_among c [] = 0
 place_among c (d ∷ ds) = if same_column c d then 0 else suc (place_among c ds)
 
-abbrev pub number_of : Value → ℤ
-number_of (value.Int n) = n
-number_of (value.Text bytes) = pos 0
+abbrev pub value_number : Value → ℤ
+value_number (value.Int n) = n
+value_number (value.Text bytes) = pos 0
 
 abbrev pub sum_of : List Value → ℤ
 sum_of [] = pos 0
-sum_of (v ∷ vs) = number_of v +ℤ sum_of vs
+sum_of (v ∷ vs) = value_number v +ℤ sum_of vs
 
 -- the first of the least values, and of the greatest
 abbrev pub lesser : Value → Value → Ordering → Value
@@ -164,17 +164,17 @@ abbrev pub group_rows : BoundSelect → List BoundColumn → List Joined → Lis
 group_rows s [] envs = group_row s [] envs ∷ []
 group_rows s (c ∷ cs) envs = map (λ g. group_row s g.0 g.1) (groups same_row (key_of (c ∷ cs)) envs)
 
-abbrev pub is_aggregate : BoundItem → Bool
-is_aggregate (item.Column c) = false
-is_aggregate item.Count = true
-is_aggregate (item.Fold f c) = true
+abbrev pub is_bound_aggregate : BoundItem → Bool
+is_bound_aggregate (item.Column c) = false
+is_bound_aggregate item.Count = true
+is_bound_aggregate (item.Fold f c) = true
 
 abbrev pub is_some_column : List BoundColumn → Bool
 is_some_column [] = false
 is_some_column (c ∷ cs) = true
 
 abbrev pub has_groups : BoundSelect → Bool
-has_groups s = is_some_column s.group_by || list_any is_aggregate s.items
+has_groups s = is_some_column s.group_by || list_any is_bound_aggregate s.items
 
 abbrev pub shown : BoundSelect → List Joined → List Row
 shown s envs = if has_groups s then group_rows s s.group_by envs else map (λ env. map (plain_value env) s.items) envs
@@ -194,15 +194,15 @@ bag tables q = select_bag tables q.first ++ flat_map (select_bag tables) q.other
 
 -- ---- an answer
 
-abbrev pub compare_at : BoundKey → Row → Row → Ordering
-compare_at key a b =
+abbrev pub compare_at_key : BoundKey → Row → Row → Ordering
+compare_at_key key a b =
     let said = compare_values (slice_index_or a key.item no_value) (slice_index_or b key.item no_value) in
     if key.descending then ordering_reverse said else said
 
 -- by the keys in turn: the first that tells the rows apart decides
 abbrev pub compare_rows : List BoundKey → Row → Row → Ordering
 compare_rows [] a b = order.Equal
-compare_rows (key ∷ keys) a b = ordering_then (compare_at key a b) (compare_rows keys a b)
+compare_rows (key ∷ keys) a b = ordering_then (compare_at_key key a b) (compare_rows keys a b)
 
 abbrev pub limited : Option ℕ → List Row → List Row
 limited None rows = rows

@@ -4,9 +4,9 @@ use Rattle.qsr_value.specs.declared.row.Value.{Value}
 use Rattle.qsr_value.specs.declared.row.Value.TheVariants.{Int, Text}
 
 -- the number that a value is
-abbrev pub number_in : Value → Option ℤ
-number_in (Int n) = Some n
-number_in (Text bytes) = None
+abbrev pub number_in_value : Value → Option ℤ
+number_in_value (Int n) = Some n
+number_in_value (Text bytes) = None
 
 -- the bytes of the text that it is
 abbrev pub text_in : Value → List ℕ

@@ -4,7 +4,7 @@ ghost use Rattle.qsr_value.specs.declared.row.Value.TheVariants as value;
 ghost use Rattle.sql_front.specs.declared.words.Aggregate.TheVariants as aggregate;
 ghost use Rattle.sql_mean.specs.Fits.{FoldFits, SumsFit};
 ghost use Rattle.qsr_value.specs.Ordered.{compare_values};
-ghost use Rattle.sql_mean.specs.Meaning.{folded, greater, lesser, no_value, number_of, sum_of, value_at};
+ghost use Rattle.sql_mean.specs.Meaning.{folded, greater, lesser, no_value, value_number, sum_of, value_at};
 ghost use Rattle.sql_mean.specs.declared.fault.AnswerFault.TheVariants as fault;
 
 use crate::AnswerFault;
@@ -17,8 +17,8 @@ use std::alloc::Global;
 use std::cmp::Ordering;
 
 /// The number that a value is; 0 where it is a text.
-fn number_of(value: &Value) -> i128
-    ensures { result ≡ number_of value.now }
+fn value_number(value: &Value) -> i128
+    ensures { result ≡ value_number value.now }
 {
     match value {
         Value::Int(number) => *number,
@@ -28,11 +28,11 @@ fn number_of(value: &Value) -> i128
 
 /// A sum with the number of one value more.
 fn added(sum: i128, value: &Value) -> Result<i128, AnswerFault>
-    ensures sum { IfOk result (λ more. more ≡ sum +ℤ number_of value.now) }
+    ensures sum { IfOk result (λ more. more ≡ sum +ℤ value_number value.now) }
     ensures in_range { IfOk result (λ more. FitsSigned w128 more) }
-    ensures fits { FitsSigned w128 (sum +ℤ number_of value.now) → IsOk result }
+    ensures fits { FitsSigned w128 (sum +ℤ value_number value.now) → IsOk result }
 {
-    match sum.checked_add(number_of(value)) {
+    match sum.checked_add(value_number(value)) {
         Some(more) => Ok(more),
         None => Err(AnswerFault::SumTooWide),
     }

@@ -2,7 +2,7 @@ ghost use Rattle.std.specs.Prelude.{◌≡◌};
 ghost use Rattle.qsr_value.specs.Ordered.{compare_values};
 ghost use Rattle.sql_bind.specs.View.{condition_of, conditions_of};
 ghost use Rattle.sql_mean.specs.Meaning.{all_hold, holds, says, value_of};
-ghost use Rattle.sql_mean.specs.Sides.{number_in, text_in};
+ghost use Rattle.sql_mean.specs.Sides.{number_in_value, text_in};
 
 use crate::places::value_there;
 use qsr_value::{Row, Value};
@@ -12,7 +12,7 @@ use std::cmp::Ordering;
 
 /// The number that a value is, if it is one.
 fn number_in(value: &Value) -> Option<i128>
-    ensures { result ≡ number_in value.now }
+    ensures { result ≡ number_in_value value.now }
 {
     match value {
         Value::Int(number) => Some(*number),
@@ -32,7 +32,7 @@ fn text_in(value: &Value) -> &[u8]
 
 /// The number that a side of a comparison is, if it is one.
 fn number(env: &[Row], side: &Operand) -> Option<i128>
-    ensures { result ≡ number_in (value_of env.now side.now) }
+    ensures { result ≡ number_in_value (value_of env.now side.now) }
 {
     match side {
         Operand::Column(column) => match value_there(env, *column) {

@@ -1,7 +1,7 @@
 ghost use Rattle.std.specs.Prelude.{◌≡◌, map, IfOk};
 ghost use Rattle.sql_bind.specs.View.{select_view};
 ghost use Rattle.std.specs.List.{list_any};
-ghost use Rattle.sql_mean.specs.Meaning.{has_groups, is_aggregate, plain_value, value_at};
+ghost use Rattle.sql_mean.specs.Meaning.{has_groups, is_bound_aggregate, plain_value, value_at};
 
 use crate::places::value_at;
 use crate::rows::{Joined, Rows};
@@ -11,7 +11,7 @@ use std::alloc::Global;
 
 /// Whether an item is computed of the rows of a group.
 fn is_aggregate(item: BoundItem) -> bool
-    ensures { result ≡ is_aggregate item }
+    ensures { result ≡ is_bound_aggregate item }
 {
     match item {
         BoundItem::Column(_) => false,
@@ -21,7 +21,7 @@ fn is_aggregate(item: BoundItem) -> bool
 
 /// Whether some of these items are computed of the rows of a group.
 fn any_aggregate(items: &[BoundItem]) -> bool
-    ensures { result ≡ list_any is_aggregate items.now }
+    ensures { result ≡ list_any is_bound_aggregate items.now }
 {
     for item in items {
         if is_aggregate(*item) {

@@ -11,7 +11,7 @@ ghost use Rattle.sql_bind.specs.declared.bound.BoundKey.{BoundKey};
 ghost use Rattle.sql_bind.specs.declared.bound.JoinedBy.TheVariants as by;
 ghost use Rattle.sql_bind.specs.declared.bound.Operand.{Operand};
 ghost use Rattle.sql_front.specs.declared.words.Comparison.TheVariants as op;
-ghost use Rattle.sql_mean.specs.Laws.{both, conjuncts, opposites, plain_tables, union_all, with_join, with_where};
+ghost use Rattle.sql_mean.specs.Laws.{both, conjuncts, opposites_of_each, plain_tables, union_all, with_join, with_where};
 ghost use Rattle.sql_mean.specs.Meaning.{IsAnswer, Joined, Lists, all_hold, bag, compare_rows, distinct_rows, holds, is_before, joined_all, joined_with, key_of, rows_at, select_bag, stable_answer};
 ghost use Rattle.sql_mean.specs.Rows.{Row, same_row};
 
@@ -33,7 +33,7 @@ pub fn conjuncts_in_any_order()
 /// NOT of an OR is an AND of NOTs, and NOT twice is nothing.
 pub fn nots_turn_conditions_round()
     ensures twice { (c : Condition) (env : Joined) → holds env (opposite (opposite c)) ≡ holds env c }
-    ensures or { (cs : Conditions) (env : Joined) → holds env (opposite (any_of cs)) ≡ holds env (all_of (opposites cs)) }
+    ensures or { (cs : Conditions) (env : Joined) → holds env (opposite (any_of cs)) ≡ holds env (all_of (opposites_of_each cs)) }
 {}
 
 /// FROM without conditions is the product of its tables.

@@ -6,15 +6,15 @@ use Rattle.sql_tokens.specs.declared.token.Token.{Token}
 use Rattle.sql_tokens.specs.declared.token.What.{What}
 use Rattle.sql_tokens.specs.declared.token.What.TheVariants as w
 use Rattle.sql_tokens.specs.Text.{text_length, IsTextAt}
-use Rattle.sql_tokens.specs.Words.{is_blank, begins_name, in_name, word_of, number_of}
+use Rattle.sql_tokens.specs.Words.{is_blank, begins_name, in_name, word_of, number_token}
 
 -- ---- the token at the front of some bytes: what it is, and how many bytes it has
 
 abbrev pub word_at : List ℕ → What × ℕ
 word_at bytes = (word_of (take_while in_name bytes), length (take_while in_name bytes))
 
-abbrev pub number_at : List ℕ → What × ℕ
-number_at bytes = (number_of (take_while is_ascii_digit bytes), length (take_while is_ascii_digit bytes))
+abbrev pub number_token_at : List ℕ → What × ℕ
+number_token_at bytes = (number_token (take_while is_ascii_digit bytes), length (take_while is_ascii_digit bytes))
 
 -- a text, by how many bytes stand behind its first mark
 abbrev pub text_of : Option ℕ → What × ℕ
@@ -53,7 +53,7 @@ sign_at b rest =
 unfoldable pub token_at : ℕ → List ℕ → What × ℕ
 token_at b rest =
     if begins_name b then word_at (b ∷ rest)
-    else (if is_ascii_digit b then number_at (b ∷ rest)
+    else (if is_ascii_digit b then number_token_at (b ∷ rest)
     else (if b == 39 then text_of (text_length false rest)
     else sign_at b rest))
 

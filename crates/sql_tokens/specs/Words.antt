@@ -54,9 +54,9 @@ abbrev pub word_of : List ℕ → What
 word_of letters = word_or (keyword_of letters) letters
 
 -- the value of digits
-abbrev pub value_of : List ℕ → ℕ
-value_of = fold (λ value digit. 10 * value + (digit - 48)) 0
+abbrev pub value_of_digits : List ℕ → ℕ
+value_of_digits = fold (λ value digit. 10 * value + (digit - 48)) 0
 
 -- a number's value, and 2 ^ 128 - 1 for a greater one
-abbrev pub number_of : List ℕ → What
-number_of digits = w.Number (min (value_of digits) (2 ^ 128 - 1))
+abbrev pub number_token : List ℕ → What
+number_token digits = w.Number (min (value_of_digits digits) (2 ^ 128 - 1))

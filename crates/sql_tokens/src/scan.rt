@@ -3,7 +3,7 @@ ghost use Rattle.std.specs.Char.{is_ascii_digit};
 ghost use Rattle.std.specs.List.{prefix_len};
 ghost use Rattle.sql_tokens.specs.Words as spec;
 ghost use Rattle.sql_tokens.specs.Text.{text_length};
-ghost use Rattle.sql_tokens.specs.Tokens.{word_at, number_at, text_of, less_at, more_at, sign_of, sign_at, token_at};
+ghost use Rattle.sql_tokens.specs.Tokens.{word_at, number_token_at, text_of, less_at, more_at, sign_of, sign_at, token_at};
 
 use crate::What;
 use crate::words::word_of;
@@ -52,8 +52,8 @@ fn count_digits(bytes: &[u8]) -> usize
 }
 
 /// The value of digits, and 2^128 - 1 for a greater one.
-fn number_of(digits: &[u8]) -> What
-    ensures { result ≡ spec.number_of digits.now }
+fn number_token(digits: &[u8]) -> What
+    ensures { result ≡ spec.number_token digits.now }
 {
     let mut value: u128 = 0;
     for b in digits {
@@ -73,11 +73,11 @@ fn word_at(bytes: &[u8]) -> Scanned
 }
 
 fn number_at(bytes: &[u8]) -> Scanned
-    ensures value { result ≡ number_at bytes.now }
+    ensures value { result ≡ number_token_at bytes.now }
     ensures within { result.1 ≤ length bytes.now }
 {
     let (digits, _) = bytes.split_at(count_digits(bytes));
-    (number_of(digits), digits.len())
+    (number_token(digits), digits.len())
 }
 
 /// Whether a text has ended right before this byte.

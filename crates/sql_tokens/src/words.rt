@@ -3,6 +3,7 @@ ghost use Rattle.std.specs.Str.{str_eq_ignore_ascii_case};
 ghost use Rattle.sql_tokens.specs.Words as spec;
 
 use crate::{Keyword, Name, What};
+use qsr_value::MAX_NAME;
 
 // The reserved words by their length, in small letters: a word is looked for among those of its own length alone.
 
@@ -40,14 +41,12 @@ const OF_SIX: [(&[u8], Keyword); 2] = [(b"select", Keyword::Select), (b"option",
 
 const OF_EIGHT: [(&[u8], Keyword); 1] = [(b"distinct", Keyword::Distinct)];
 
-const MOST_LETTERS: usize = 16;
-
 /// A name of at most 16 letters.
 fn name_of(letters: &[u8]) -> Name
     requires { length letters.now ≤ 16 }
     ensures { result ≡ spec.name_of letters.now }
 {
-    let mut bytes = [0; MOST_LETTERS];
+    let mut bytes = [0; MAX_NAME];
     for at in 0..letters.len() {
         bytes[at] = letters[at].to_ascii_lowercase();
     }
@@ -96,7 +95,7 @@ pub(crate) fn word_of(letters: &[u8]) -> What
 {
     match keyword_of(letters) {
         Some(keyword) => What::Word(keyword),
-        None if letters.len() <= MOST_LETTERS => What::Name(name_of(letters)),
+        None if letters.len() <= MAX_NAME => What::Name(name_of(letters)),
         None => What::Bad,
     }
 }

@@ -7,10 +7,8 @@ use case_kit::{Words, bytes_of, number};
 use disk_kit::{Ended, area_of, pages_of, say_bytes, say_end};
 use disk_model::{Failed, MemDisk};
 use page_store::{Area, Store};
+use qsr_value::PAGE_BYTES;
 use std::alloc::Global;
-
-/// How many bytes a page has.
-const PAGE: usize = 4096;
 
 /// Writes bytes of a page.
 fn write_to(
@@ -36,7 +34,7 @@ fn read_from(
     store: &mut Store<'_, MemDisk>,
     area: Area,
     page: u32,
-    bytes: &mut [u8; PAGE],
+    bytes: &mut [u8; PAGE_BYTES],
 ) -> Result<Result<(), Failed>>
     requires { IsArea area }
 {
@@ -77,7 +75,7 @@ fn write(
 /// Reads a page, as `AREA PAGE`, and says its bytes.
 fn read(store: &mut Store<'_, MemDisk>, said: &mut String, words: &mut Words<'_>) -> Result<Ended> {
     let area = area_of(words.word()?)?;
-    let mut page = [0x5A; PAGE];
+    let mut page = [0x5A; PAGE_BYTES];
     let end = read_from(store, area, words.number()?, &mut page)?;
     if end.is_err() {
         return Ok(say_end(said, end)?);
@@ -90,7 +88,7 @@ fn read(store: &mut Store<'_, MemDisk>, said: &mut String, words: &mut Words<'_>
 fn fill_pages(store: &mut Store<'_, MemDisk>, area: Area, bytes: &[u8]) -> Result<Ended>
     requires { IsArea area }
 {
-    for (page, part) in (0..u32::MAX).zip(bytes.chunks(PAGE)) {
+    for (page, part) in (0..u32::MAX).zip(bytes.chunks(PAGE_BYTES)) {
         write_to(store, area, page, 0, part)??;
     }
     Ok(Ended::Well)
@@ -112,7 +110,7 @@ fn push_page(
 ) -> Result<()>
     requires { IsArea area }
 {
-    let mut page = [0x5A; PAGE];
+    let mut page = [0x5A; PAGE_BYTES];
     read_from(store, area, number, &mut page)??;
     bytes.extend_from_slice(&page)?;
     Ok(())
@@ -127,7 +125,7 @@ fn push_pages(
 ) -> Result<()>
     requires { IsArea area }
 {
-    for number in 0..count.div_ceil(PAGE as u32) {
+    for number in 0..count.div_ceil(PAGE_BYTES as u32) {
         push_page(store, area, number, bytes)?;
     }
     Ok(())

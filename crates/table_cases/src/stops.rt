@@ -1,4 +1,4 @@
-//! What is left of a store where it is stopped behind each of its calls, and what its calls answer where each call of the disk
+//! What is left of a store where it is stopped after each of its calls, and what its calls answer where each call of the disk
 //! fails.
 
 use crate::ranges::{Ranges, push_as_one};
@@ -47,7 +47,7 @@ impl Left {
     }
 }
 
-/// Makes a call on what a stop behind so many calls leaves by a fill.
+/// Makes a call on what a stop after so many calls leaves by a fill.
 fn call_on_image(
     alloc: Global,
     disk: &MemDisk,
@@ -60,7 +60,7 @@ fn call_on_image(
     call(alloc, &mut image, into, line)
 }
 
-/// What a call answers on what a stop behind so many calls leaves.
+/// What a call answers on what a stop after so many calls leaves.
 fn left_behind(alloc: Global, disk: &MemDisk, calls: u64, line: &str) -> Result<Left> {
     let mut left = Left::new(alloc);
     for pick in &FILLS {
@@ -77,7 +77,7 @@ fn stop_answer(alloc: Global, disk: &MemDisk, calls: u64, line: &str) -> Result<
     Ok(answer)
 }
 
-/// Says what a call answers on what stops behind these numbers of calls leave.
+/// Says what a call answers on what stops after these numbers of calls leave.
 pub(crate) fn stop_each(
     alloc: Global,
     disk: &MemDisk,

@@ -166,7 +166,7 @@ impl Tables {
         Ok(())
     }
 
-    /// `FIRST..LAST CALL`: says what a call answers on what is left where the store is stopped behind so many calls of its disk.
+    /// `FIRST..LAST CALL`: says what a call answers on what is left where the store is stopped after so many calls of its disk.
     fn stop(&mut self, alloc: Global, into: &mut String, rest: &str) -> Result<()> {
         let (numbers, line) = rest.split_once(' ').context("no call")?;
         let disk = self.disk.as_ref().context("there is no store")?;

@@ -24,7 +24,7 @@ unfolding entry_of
 names_list [] = refl
 names_list (table ∷ tables) = ap (λ (l : List (List ℕ)). table.name ∷ l) (names_list tables)
 
-names_told : (s : Tables) → table_names (catalogue_of s) ≡ names_of s
+pub names_told : (s : Tables) → table_names (catalogue_of s) ≡ names_of s
 unfolding catalogue_of
 names_told s = names_list s.tables
 

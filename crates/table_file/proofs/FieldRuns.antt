@@ -15,15 +15,10 @@ use Rattle.qsr_value.specs.declared.row.Value.TheVariants.{Text}
 use Rattle.qsr_value.specs.declared.schema.Column.{Column}
 use Rattle.qsr_value.specs.Values.{AreTexts, Fits, IsOfKind, IsText}
 use Rattle.qsr_value.proofs.Lists.{drop-get, slice_to_end, take-get}
-use Rattle.qsr_value.proofs.Readings.{Fits-more}
-use Rattle.table_file.proofs.NumberLemmas.{and_right, none_if_not}
-use Rattle.table_file.specs.Fields.{fields_of, longer, read_row, row_of, value_of, with_value}
+use Rattle.qsr_value.proofs.NumberLemmas.{and_right, none_if_not}
+use Rattle.qsr_value.proofs.Readings.{AreTexts-more, Fits-more}
+use Rattle.table_file.specs.Fields.{fields_of, longer_field, read_row, row_of, value_of_field, with_value}
 use Rattle.table_file.specs.FieldsLeft.{fields_behind, fields_from}
-
--- one more text behind texts
-AreTexts-more : (vs : List Value) (v : Value) → AreTexts vs → IsText v → AreTexts (vs ++ v ∷ [])
-AreTexts-more [] v texts text = (text, tt)
-AreTexts-more (w ∷ ws) v texts text = (texts.0, AreTexts-more ws v texts.1 text)
 
 -- a text's first field ends before its first tab, or at its end
 pub first_field : (text : List ℕ) (n : ℕ) → n ≤ length text → ((k : ℕ) → k < n → get_or text k 0 ≡ 9 → ⊥) → (n < length text → get_or text n 0 ≡ 9)
@@ -80,7 +75,7 @@ HasReadFields-start schema text = record { fits = tt; texts = tt; within = omega
 -- the next column, and the field that begins here
 next_column : {schema : List Column} {text : List ℕ} {place : ℕ} {next : Option ℕ} {row : List Value} {column : Column} {field : List ℕ} {left : List (List ℕ)}
     → HasReadFields schema text place next row → slice_get schema place ≡ Some column → fields_from text next ≡ field ∷ left
-    → read_row schema text ≡ behind row (with_value (place + 1) (value_of column.kind field) (row_of (place + 1 + 1) (drop (place + 1) schema) left))
+    → read_row schema text ≡ behind row (with_value (place + 1) (value_of_field column.kind field) (row_of (place + 1 + 1) (drop (place + 1) schema) left))
 next_column {schema = schema} {place = place} {row = row} {column = column} {field = field} {left = left} was column_is fields_are =
     was.read ∙ ap (λ fields. behind row (row_of (place + 1) (drop place schema) fields)) fields_are
     ∙ ap (λ columns. behind row (row_of (place + 1) columns (field ∷ left))) (drop-get schema place column column_is)
@@ -88,7 +83,7 @@ next_column {schema = schema} {place = place} {row = row} {column = column} {fie
 -- it is a value of it
 pub HasReadFields-more : {schema : List Column} {text : List ℕ} {place : ℕ} {next after : Option ℕ} {row : List Value} {column : Column} {field : List ℕ} {value : Value}
     → HasReadFields schema text place next row → slice_get schema place ≡ Some column → fields_from text next ≡ field ∷ fields_from text after
-    → Some value ≡ value_of column.kind field → IsOfKind column.kind value × IsText value → IfSome after (λ at. at ≤ length text)
+    → Some value ≡ value_of_field column.kind field → IsOfKind column.kind value × IsText value → IfSome after (λ at. at ≤ length text)
     → HasReadFields schema text (place + 1) after (row ++ value ∷ [])
 HasReadFields-more {schema = schema} {text = text} {place = place} {after = after} {row = row} {column = column} {value = value} was column_is fields_are value_is fits within =
     let rest : Result (List Value) ℕ = row_of (place + 1 + 1) (drop (place + 1) schema) (fields_from text after) in
@@ -103,7 +98,7 @@ HasReadFields-more {schema = schema} {text = text} {place = place} {after = afte
 -- it is no value of it
 pub HasReadFields-bad : {schema : List Column} {text : List ℕ} {place : ℕ} {next : Option ℕ} {row : List Value} {column : Column} {field : List ℕ} {left : List (List ℕ)}
     → HasReadFields schema text place next row → slice_get schema place ≡ Some column → fields_from text next ≡ field ∷ left
-    → None ≡ value_of column.kind field → read_row schema text ≡ Err (place + 1)
+    → None ≡ value_of_field column.kind field → read_row schema text ≡ Err (place + 1)
 HasReadFields-bad {schema = schema} {place = place} {row = row} {left = left} was column_is fields_are value_is =
     next_column was column_is fields_are
     ∙ ap (λ found. behind row (with_value (place + 1) found (row_of (place + 1 + 1) (drop (place + 1) schema) left))) (sym value_is)
@@ -131,12 +126,12 @@ HasReadFields-all {schema = schema} {place = place} {row = row} was past =
     (no_column was past ∙ ap Ok (append-nil row), (subst (λ columns. Fits columns row) (take_all place schema past) was.fits, was.texts))
 
 -- a text has a field
-one_more : (fields : List (List ℕ)) (byte : ℕ) (row : List Value) (number : ℕ) → behind row (row_of number [] (longer byte fields)) ≡ Err number
+one_more : (fields : List (List ℕ)) (byte : ℕ) (row : List Value) (number : ℕ) → behind row (row_of number [] (longer_field byte fields)) ≡ Err number
 one_more [] byte row number = refl
 one_more (field ∷ fields) byte row number = refl
 
 by_tab : (tab : Bool) (bytes : List ℕ) (byte : ℕ) (row : List Value) (number : ℕ)
-    → behind row (row_of number [] (cond tab ([] ∷ fields_of bytes) (longer byte (fields_of bytes)))) ≡ Err number
+    → behind row (row_of number [] (cond tab ([] ∷ fields_of bytes) (longer_field byte (fields_of bytes)))) ≡ Err number
 by_tab true bytes byte row number = refl
 by_tab false bytes byte row number = one_more (fields_of bytes) byte row number
 
@@ -151,10 +146,10 @@ HasReadFields-too_many {schema = schema} {text = text} {place = place} {at = at}
     no_column was (omega arith) ∙ one_field (drop at text) row (place + 1) ∙ ap (λ n. Err (n + 1)) (sym all)
 
 -- a text that isn't too long
-pub text_stands : (max : ℕ) (field text : List ℕ) → length field ≤ max → text ≡ field → IsUtf8 field → Some (Text text) ≡ value_of (kinds.Text max) field
+pub text_stands : (max : ℕ) (field text : List ℕ) → length field ≤ max → text ≡ field → IsUtf8 field → Some (Text text) ≡ value_of_field (kinds.Text max) field
 text_stands max field text within same utf8 = rw (le-leb (length field) max within, is_utf8-from_IsUtf8 field utf8, same) refl
 
-pub no_text : (max : ℕ) (field : List ℕ) → (IsUtf8 field → ⊥) → None ≡ value_of (kinds.Text max) field
+pub no_text : (max : ℕ) (field : List ℕ) → (IsUtf8 field → ⊥) → None ≡ value_of_field (kinds.Text max) field
 no_text max field not_utf8 =
     none_if_not (nat_le (length field) max && is_utf8 field) (Text field)
     (λ passes. not_utf8 (IsUtf8-from_is_utf8 field (and_right (nat_le (length field) max) (is_utf8 field) passes)))

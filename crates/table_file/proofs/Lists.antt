@@ -1,6 +1,7 @@
 -- What each item of a list has, and what stands at a place of it.
-use Rattle.std.proofs.Common.{◌≡◌, ◌≢◌, ◌⊎◌, ℕ, zero, suc, ◌<◌, ◌≤◌, Bool, List, [], ◌∷◌, ◌++◌, length, filter, get_or, slice_get, slice_set, Some, inl, inr, refl, ap, ◌∙◌, arith, subst}
+use Rattle.std.proofs.Common.{◌≡◌, ◌≢◌, ◌⊎◌, ℕ, zero, suc, ◌<◌, ◌≤◌, Bool, List, [], ◌∷◌, ◌++◌, length, take, filter, get_or, slice_get, slice_set, Option, None, Some, MatchOption, inl, inr, refl, sym, ap, ◌∙◌, arith, subst}
 use Rattle.std.proofs.lemmas.Bool.{cond_both}
+use Rattle.std.proofs.lemmas.List.{length_push, take-append-le, take_all}
 use Rattle.std.proofs.lemmas.Option.{get_or_from_slice_get}
 use Rattle.std.specs.List.{AllByRecursion}
 
@@ -69,3 +70,16 @@ get_set-other (x ∷ xs) zero y zero other = absurd (other refl)
 get_set-other (x ∷ xs) zero y (suc i) other = refl
 get_set-other (x ∷ xs) (suc k) y zero other = refl
 get_set-other (x ∷ xs) (suc k) y (suc i) other = get_set-other xs k y i (λ same. other (ap suc same))
+
+-- two lists to which an item was added are one where they are the same then · what is left where the last of them is taken away again
+init_same : {X : Type 0} (xs ys : List X) (x y : X) → xs ++ x ∷ [] ≡ ys ++ y ∷ [] → xs ≡ ys
+init_same xs ys x y same =
+    let long : length xs ≡ length ys = omega (arith, length_push xs x, length_push ys y, ap length same) in
+    sym (take-append-le (length xs) xs (x ∷ []) (omega arith) ∙ take_all (length xs) xs (omega arith))
+    ∙ ap (take (length xs)) same ∙ ap (λ n. take n (ys ++ y ∷ [])) long
+    ∙ take-append-le (length ys) ys (y ∷ []) (omega arith) ∙ take_all (length ys) ys (omega arith)
+
+pub popped : {X : Type 0} (old pushed left : List X) (x : X) (last : Option X) → pushed ≡ old ++ x ∷ []
+    → MatchOption last ((pushed ≡ []) × (left ≡ [])) (λ last. pushed ≡ left ++ last ∷ []) → left ≡ old
+popped old pushed left x None is was = absurd (omega (arith, ap length (sym is ∙ was.0), length_push old x))
+popped old pushed left x (Some last) is was = init_same left old last x (sym was ∙ is)

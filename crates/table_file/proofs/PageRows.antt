@@ -1,6 +1,6 @@
 -- The rows that a page of a table has, as it was read.
 use Rattle.std.proofs.Common.{◌≡◌, ℕ, zero, suc, ◌+◌, ◌*◌, ◌<◌, ◌≤◌, nat_le, List, [], ◌∷◌, ◌++◌, length, map, take, drop, slice_get, slice_index_or, get_or, Some, inl, inr, refl, sym, ap, ◌∙◌, arith, subst, append_assoc, length-append}
-use Rattle.std.proofs.lemmas.Bool.{cases_Bool, cond-true, cond_both, leb-false, leb-true}
+use Rattle.std.proofs.lemmas.Bool.{cases_Bool, cond-true, leb-false}
 use Rattle.std.proofs.lemmas.List.{ext_get_or, get_or-take, get_or_append_left, length-take-le, take-append-drop}
 use Rattle.std.proofs.lemmas.Option.{slice_get-get_or}
 use Rattle.std.proofs.Math.Seq.{drop-append_seam, get_or-append_seam, take-append_seam}
@@ -17,10 +17,12 @@ use Rattle.qsr_value.specs.declared.row.Value.TheVariants.{Int, Text}
 use Rattle.qsr_value.specs.declared.schema.Column.{Column}
 use Rattle.row_page.specs.Framed.{framed, rows_bytes}
 use Rattle.row_page.specs.Pages.{IsPage, IsRow, ended, no_row, page_end}
+use Rattle.row_page.proofs.Framing.{length-framed}
 use Rattle.table_file.specs.CatalogueBytes.{IsSchema, IsTable}
 use Rattle.table_file.specs.Tables.{FullStand, RowsStand, Table, entry_of, page_at, table_pages, table_part}
 use Rattle.table_file.proofs.Lists.{all_at, all_weaker}
-use Rattle.table_file.proofs.PagesOf.{AreFitting, IsFitting, framed_some, full_count, pages_begun, pages_fitting}
+use Rattle.table_file.proofs.Standing.{ended_most}
+use Rattle.table_file.proofs.PagesOf.{AreFitting, IsFitting, full_count, pages_begun, pages_fitting}
 
 -- what stands in an area is at the front of what was read there
 pub holds_front : (a at : ℕ) (bytes buf : List ℕ) (m : Contents) → AreaHolds a at bytes m → AreaHolds a at buf m → length bytes ≤ length buf → take (length bytes) buf ≡ bytes
@@ -51,11 +53,6 @@ ended_is_page rows buf each within long front =
         | inr full ↦ inl (omega (arith, leb-false (length bytes + 2) 4096 full, long))
       ];
     }
-
-ended_long : (bytes : List ℕ) → length bytes ≤ 4096 → length (ended 4096 bytes) ≤ 4096
-ended_long bytes within =
-    cond_both (nat_le (length bytes + 2) 4096) no_row [] (λ (end : List ℕ). length (bytes ++ end) ≤ 4096)
-    (λ yes. omega (arith, length-append bytes no_row, leb-true (length bytes + 2) 4096 yes)) (λ no. omega (arith, length-append bytes [], within))
 
 -- a row of some columns has a byte
 value_some : (kind : ColKind) (value : Value) → IsOfKind kind value → 0 < length (encoded kind value)
@@ -114,7 +111,7 @@ rows_fitting : (columns : List Column) (rows : List (List Value)) → IsSchema c
     → AreFitting (Fits columns) (encoded_row columns) 4096 (table_pages columns rows)
 rows_fitting columns rows is fits width =
     pages_fitting (Fits columns) (encoded_row columns) 4096 rows fits
-    (λ row has. omega (arith, framed_some (encoded_row columns row), width row has, is.width))
+    (λ row has. omega (arith, length-framed (encoded_row columns row), width row has, is.width))
 
 pub full_rows : (t : Table) (table page end : ℕ) (buf : List ℕ) (m : Contents) → page + 1 < (entry_of t).pages → IsSchema t.columns → AllByRecursion (Fits t.columns) t.rows
     → ((row : List Value) → Fits t.columns row → length (encoded_row t.columns row) ≤ width_of t.columns) → length buf ≡ 4096
@@ -136,7 +133,7 @@ full_rows t table page end buf m count is fits width long read stand told =
     let stands : AreaHolds (table_part table) (4096 * page) (ended 4096 bytes) m =
     subst (λ (n : ℕ). AreaHolds (table_part table) (4096 * n) (ended 4096 bytes) m) none (full_at t.columns (table_part table) 0 pages.full page on m stand.full there) in
     let front : take (length (ended 4096 bytes)) buf ≡ ended 4096 bytes =
-    holds_front (table_part table) (4096 * page) (ended 4096 bytes) buf m stands read (omega (arith, ended_long bytes fitting.within, long)) in
+    holds_front (table_part table) (4096 * page) (ended 4096 bytes) buf m stands read (omega (arith, ended_most bytes fitting.within, long)) in
     let each : AllByRecursion IsRow (map encoded on) =
     all_map IsRow encoded on (all_weaker (Fits t.columns) (λ (row : List Value). IsRow (encoded row)) on
     (λ row has. record { some = row_some t.columns row is.some has; short = omega (arith, width row has, is.width) }) fitting.each) in

@@ -1,5 +1,5 @@
 -- Each part of a catalogue is read from its bytes, and only from them.
-use Rattle.std.proofs.Common.{◌≡◌, ℕ, zero, suc, ◌<◌, ◌≤◌, Bool, true, false, cond, not, ltb, eqb, ◌&&◌, List, [], ◌∷◌, ◌++◌, length, refl, sym, ap, subst, ◌∙◌, arith}
+use Rattle.std.proofs.Common.{◌≡◌, ℕ, zero, suc, ◌^◌, ◌<◌, ◌≤◌, Bool, true, false, cond, not, ltb, eqb, ◌&&◌, List, [], ◌∷◌, ◌++◌, length, refl, sym, ap, subst, ◌∙◌, arith}
 use Rattle.std.specs.Prelude.{◌↔◌, ◌≢◌, IfSome, slice_get}
 use Rattle.std.specs.List.{flat_map, AllByRecursion}
 use Rattle.std.proofs.lemmas.Bool.{eqb-false, le-ltb, lt-ltb, ltb-false, ltb-true, ne_eqb}
@@ -12,19 +12,22 @@ use Rattle.qsr_value.specs.declared.schema.Column.{Column}
 use Rattle.table_file.specs.declared.entries.IndexEntry.{IndexEntry}
 use Rattle.table_file.specs.declared.entries.TableEntry.{TableEntry}
 use Rattle.table_file.specs.CatalogueBytes.{AreApart, AreWords, IsColumn, IsIndex, IsName, IsSchema, IsStoredKind, IsTable, column_bytes, columns_bytes, index_bytes, kind_bytes, name_bytes, table_bytes}
-use Rattle.table_file.specs.Reading.{are_apart, column_at, entry_at, has_area, has_column, index_at, is_index_of, is_same, kind_at, kind_of, max_at, name_at, number_at, schema_at, table_at, tables_at}
-use Rattle.table_file.proofs.Numbers.{number_reads, text_reads}
-use Rattle.table_file.proofs.Parts.{or_false}
-use Rattle.table_file.proofs.Readers.{IsCounted, IsReader, byte_reads, chained_reads, counted_reads, mapped_reads, said, tested_reads}
+use Rattle.table_file.specs.Reading.{are_apart, column_at, entry_at, entry_of_value, entry_parts, has_area, has_column, index_at, is_index_of, is_same, kind_at, stored_kind_of, max_at, name_at, schema_at, table_at, tables_at}
+use Rattle.part_codec.specs.Format.{FormatValue}
+use Rattle.part_codec.specs.Reading.{unsigned_at}
+use Rattle.part_codec.proofs.Formats.{format_reads}
+use Rattle.part_codec.proofs.Numbers.{number_reads, short_text_reads}
+use Rattle.part_codec.proofs.Parts.{or_false}
+use Rattle.part_codec.proofs.Readers.{IsCounted, IsReader, byte_reads, chained_reads, counted_reads, mapped_reads, said, tested_reads}
 
 -- ---- columns
 
 pub name_reads : IsReader name_at name_bytes IsName
 unfolding name_at name_bytes
 name_reads =
-    mapped_reads (λ (p : ℕ × List ℕ). p.1) (λ name. (length name, name)) (λ name. length name ∷ name) IsName (chained_reads (byte_reads 1 16) (λ size _. text_reads size))
-    (λ p is. (record { some = subst (λ n. 1 ≤ n) (sym is.1.0) is.0.0; most = subst (λ n. n ≤ 16) (sym is.1.0) is.0.1; text = is.1.1 }, ap (λ n. n ∷ p.1) (sym is.1.0)))
-    (λ name is. (((is.some, is.most), (refl, is.text)), refl, refl))
+    said IsName (short_text_reads 1 16)
+    (λ name is. record { some = is.0.0; most = is.0.1; text = is.1 })
+    (λ name is. ((is.some, is.most), is.text))
 
 -- the greatest length behind a kind
 abbrev IsMax : ℕ → ℕ → Type 0
@@ -35,9 +38,9 @@ max_reads : (kind : ℕ) → IsReader (max_at kind) (little_bytes 2) (IsMax kind
 max_reads zero = said (IsMax 0) (number_reads 2 0 0 (omega arith)) (λ n is. let high = is.1 in omega (arith, high)) (λ n is. (omega (arith, is), omega (arith, is)))
 max_reads (suc kind) =
     let text : eqb (suc kind) 0 ≡ false = ne_eqb (suc kind) 0 (λ h. omega (arith, h)) in
-    subst (λ b. IsReader (cond b (number_at 2 0 0) (number_at 2 1 998)) (little_bytes 2) (IsMax (suc kind))) (sym text) (number_reads 2 1 998 (omega arith))
+    subst (λ b. IsReader (cond b (unsigned_at 2 0 0) (unsigned_at 2 1 998)) (little_bytes 2) (IsMax (suc kind))) (sym text) (number_reads 2 1 998 (omega arith))
 
-kind_there : (kind max : ℕ) → kind ≤ 1 → IsMax kind max → IsStoredKind (kind_of (kind, max)) × (kind ∷ little_bytes 2 max ≡ kind_bytes (kind_of (kind, max)))
+kind_there : (kind max : ℕ) → kind ≤ 1 → IsMax kind max → IsStoredKind (stored_kind_of (kind, max)) × (kind ∷ little_bytes 2 max ≡ kind_bytes (stored_kind_of (kind, max)))
 unfolding kind_bytes
 kind_there zero max le is = (tt, ap (λ n. 0 ∷ little_bytes 2 n) is)
 kind_there (suc zero) max le is = (is, refl)
@@ -49,7 +52,7 @@ kind_back Wide = (0, 0)
 kind_back (Text max) = (1, max)
 
 kind_again : (kind : ColKind) → IsStoredKind kind
-    → (((0 ≤ (kind_back kind).0) × ((kind_back kind).0 ≤ 1)) × IsMax (kind_back kind).0 (kind_back kind).1) × (kind_of (kind_back kind) ≡ kind) × (kind_bytes kind ≡ ((kind_back kind).0 ∷ []) ++ little_bytes 2 (kind_back kind).1)
+    → (((0 ≤ (kind_back kind).0) × ((kind_back kind).0 ≤ 1)) × IsMax (kind_back kind).0 (kind_back kind).1) × (stored_kind_of (kind_back kind) ≡ kind) × (kind_bytes kind ≡ ((kind_back kind).0 ∷ []) ++ little_bytes 2 (kind_back kind).1)
 unfolding kind_bytes
 kind_again Int is = (((omega arith, omega arith), refl), refl, refl)
 kind_again Wide is = absurd is
@@ -57,7 +60,7 @@ kind_again (Text max) is = (((omega arith, omega arith), is), refl, refl)
 
 kind_reads : IsReader kind_at kind_bytes IsStoredKind
 unfolding kind_at
-kind_reads = mapped_reads kind_of kind_back kind_bytes IsStoredKind (chained_reads (byte_reads 0 1) (λ kind _. max_reads kind)) (λ p is. kind_there p.0 p.1 is.0.1 is.1) kind_again
+kind_reads = mapped_reads stored_kind_of kind_back kind_bytes IsStoredKind (chained_reads (byte_reads 0 1) (λ kind _. max_reads kind)) (λ p is. kind_there p.0 p.1 is.0.1 is.1) kind_again
 
 pub column_reads : IsReader column_at column_bytes IsColumn
 unfolding column_at column_bytes
@@ -77,7 +80,7 @@ not_above n e = ltb-false 1000 n (not_true (ltb 1000 n) e)
 pub schema_reads : IsReader schema_at columns_bytes IsSchema
 unfolding schema_at columns_bytes
 schema_reads =
-    said IsSchema (tested_reads (λ columns. not (ltb 1000 (width_of columns))) (counted_reads 1 column_reads))
+    said IsSchema (tested_reads (λ columns. not (ltb 1000 (width_of columns))) (counted_reads 1 16 column_reads))
     (λ columns is. record { some = is.0.some; most = is.0.most; each = is.0.each; width = not_above (width_of columns) is.1 })
     (λ columns is. (record { some = is.some; most = is.most; each = is.each }, ap not (le-ltb 1000 (width_of columns) is.width)))
 
@@ -101,20 +104,14 @@ table_reads sizes small =
     (λ p is. (record { name = is.0; schema = is.1.0; rows = is.1.1.0.1; pages = is.1.1.1.0.1; end = is.1.1.1.1.1 }, refl))
     (λ table is. ((is.name, (is.schema, ((omega arith, is.rows), ((omega arith, is.pages), (omega arith, is.end))))), refl, refl))
 
-pub tables_reads : (sizes : Sizes) → AreWords sizes → IsReader (tables_at sizes) (λ tables. length tables ∷ flat_map table_bytes tables) (IsCounted (IsTable sizes) 0)
+pub tables_reads : (sizes : Sizes) → AreWords sizes → IsReader (tables_at sizes) (λ tables. length tables ∷ flat_map table_bytes tables) (IsCounted (IsTable sizes) 0 16)
 unfolding tables_at
-tables_reads sizes small = counted_reads 0 (table_reads sizes small)
+tables_reads sizes small = counted_reads 0 16 (table_reads sizes small)
 
 -- ---- indexes
 
-abbrev EntryParts : Type 0
-EntryParts = ℕ × (ℕ × (ℕ × (ℕ × (ℕ × (ℕ × ℕ)))))
-
-abbrev entry_made : EntryParts → IndexEntry
-entry_made p = record { table = p.0; column = p.1.0; area = p.1.1.0; rows = p.1.1.1.0; leaves = p.1.1.1.1.0; pages = p.1.1.1.1.1.0; height = p.1.1.1.1.1.1 }
-
-abbrev entry_back : IndexEntry → EntryParts
-entry_back index = (index.table, (index.column, (index.area, (index.rows, (index.leaves, (index.pages, index.height))))))
+abbrev entry_back : (sizes : Sizes) → IndexEntry → FormatValue (entry_parts sizes)
+entry_back sizes = λ index. (index.table, (index.column, (index.area, (index.rows, (index.leaves, (index.pages, (index.height, tt)))))))
 
 -- what is within the limits, whatever its table
 record IsEntry (sizes : Sizes) (index : IndexEntry) : Type 0 where
@@ -130,12 +127,10 @@ entry_reads : (sizes : Sizes) → AreWords sizes → IsReader (entry_at sizes) i
 unfolding entry_at index_bytes
 entry_reads sizes small =
     let index_most = small.index in
-    let byte = byte_reads 0 255 in
-    let pages = number_reads 4 0 sizes.index (omega (arith, index_most)) in
-    mapped_reads entry_made entry_back index_bytes (IsEntry sizes)
-    (chained_reads byte (λ _ _. chained_reads byte (λ _ _. chained_reads (byte_reads 0 15) (λ _ _. chained_reads (number_reads 4 0 1048575 (omega arith)) (λ _ _. chained_reads pages (λ _ _. chained_reads pages (λ _ _. byte)))))))
-    (λ p is. (record { table = is.0.1; column = is.1.0.1; area = is.1.1.0.1; rows = is.1.1.1.0.1; leaves = is.1.1.1.1.0.1; pages = is.1.1.1.1.1.0.1; height = is.1.1.1.1.1.1.1 }, refl))
-    (λ index is. (((omega arith, is.table), ((omega arith, is.column), ((omega arith, is.area), ((omega arith, is.rows), ((omega arith, is.leaves), ((omega arith, is.pages), (omega arith, is.height))))))), refl, refl))
+    let pages : sizes.index < 256 ^ 4 = omega (arith, index_most) in
+    mapped_reads (entry_of_value sizes) (entry_back sizes) index_bytes (IsEntry sizes) (format_reads (entry_parts sizes) (tt, (tt, (tt, (omega arith, (pages, (pages, (tt, tt))))))))
+    (λ p is. (record { table = is.0.1; column = is.1.0.1; area = is.1.1.0.1; rows = is.1.1.1.0.1; leaves = is.1.1.1.1.0.1; pages = is.1.1.1.1.1.0.1; height = is.1.1.1.1.1.1.0.1 }, refl))
+    (λ index is. (((omega arith, is.table), ((omega arith, is.column), ((omega arith, is.area), ((omega arith, is.rows), ((omega arith, is.leaves), ((omega arith, is.pages), ((omega arith, is.height), tt))))))), refl, refl))
 
 both_true : (a b : Bool) → (a && b) ≡ true → (a ≡ true) × (b ≡ true)
 both_true true b e = (refl, e)

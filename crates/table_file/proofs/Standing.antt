@@ -1,8 +1,7 @@
 -- What stands in the area of a table stays where only bytes behind it are written.
-use Rattle.std.proofs.Common.{◌≡◌, ◌≢◌, ℕ, ◌+◌, ◌-◌, ◌*◌, ◌<◌, ◌≤◌, Bool, if◌then◌else◌, List, [], ◌∷◌, ◌++◌, length, refl, sym, ap, ◌∙◌, subst, inl, inr, arith, length-append}
+use Rattle.std.proofs.Common.{◌≡◌, ◌≢◌, ℕ, ◌+◌, ◌-◌, ◌*◌, ◌<◌, ◌≤◌, Bool, if◌then◌else◌, List, [], ◌∷◌, ◌++◌, length, sym, ap, ◌∙◌, subst, inl, inr, arith, length-append}
 use Rattle.std.specs.Prelude.{slice_get, Option, Some}
 use Rattle.std.proofs.lemmas.Bool.{cases_eq, cases_lt, le-leb, lt-leb}
-use Rattle.std.proofs.lemmas.List.{get_or_append_left, get_or-append_right}
 use Rattle.page_store.specs.Store.{AreaHolds, Contents}
 use Rattle.qsr_value.specs.Encoding.{encoded_row}
 use Rattle.qsr_value.specs.declared.row.Value.{Value}
@@ -10,7 +9,7 @@ use Rattle.qsr_value.specs.declared.schema.Column.{Column}
 use Rattle.row_page.specs.Framed.{rows_bytes}
 use Rattle.row_page.specs.Pages.{Pages, ended, last_end, no_row, page_end}
 use Rattle.table_file.specs.Appending.{IsBehind, table_end, written_to}
-use Rattle.table_file.specs.Tables.{AreaGrows, FullStand, HasTables, OnlyTables, PagesStand, Tables, table_pages, table_part}
+use Rattle.table_file.specs.Tables.{AreaGrows, FullStand, HasTables, PagesStand, Tables, table_pages, table_part}
 use Rattle.table_file.specs.declared.writer.TableWriter.{TableWriter}
 
 -- the bytes of an area in front of this one are as they were
@@ -20,16 +19,6 @@ SameFront part at old new = (i : ℕ) → i < at → new.area part i ≡ old.are
 -- bytes that stand there stay
 pub holds_still : (part from at : ℕ) (bytes : List ℕ) (old new : Contents) → from + length bytes ≤ at → SameFront part at old new → AreaHolds part from bytes old → AreaHolds part from bytes new
 holds_still part from at bytes old new within same holds i before = same (from + i) (omega arith) ∙ holds i before
-
--- bytes that stand behind others stand with them
-pub holds_both : (part from at : ℕ) (front rest : List ℕ) (m : Contents) → at ≡ from + length front → AreaHolds part from front m → AreaHolds part at rest m → AreaHolds part from (front ++ rest) m
-holds_both part from at front rest m place holds more i before = elim (cases_lt i (length front)) [
-  | inl low ↦ holds i low ∙ sym (get_or_append_left front rest 0 i low)
-  | inr high ↦
-      let here : from + i ≡ at + (i - length front) = omega (arith, place, high) in
-      ap (m.area part) here ∙ more (i - length front) (omega (arith, before, length-append front rest, high))
-      ∙ sym (get_or-append_right front rest (length front) i 0 refl (omega (arith, high)))
-]
 
 -- how far the bytes of a page reach that is followed by another
 pub ended_most : (bytes : List ℕ) → length bytes ≤ 4096 → length (ended 4096 bytes) ≤ 4096
@@ -92,12 +81,4 @@ tables_still s w old new behind grows has = record {
             let apart : table_part number ≢ table_part w.table = λ same. other (omega (arith, same)) in
             pages_still table.columns (table_part number) (table_end table) pages old new (omega arith) (same_other (table_part w.table) (table_part number) (written_to w) old new apart grows (table_end table)) stand
       ];
-}
-
--- a table that grows is one of the tables
-pub grows_only : (table at : ℕ) (old new : Contents) → table < 16 → AreaGrows (table_part table) at old new → OnlyTables old new
-grows_only table at old new some grows = record {
-  head = grows.head;
-  bodies = λ twin other. ap (λ (body : ℕ → Option (List ℕ)). body twin) grows.bodies;
-  areas = λ part past. grows.others part (λ same. omega (arith, same, past, some));
 }

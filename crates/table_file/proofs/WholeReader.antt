@@ -1,18 +1,15 @@
 -- A catalogue is read from its bytes, and only from them, and no two have the same bytes.
-use Rattle.std.proofs.Common.{◌≡◌, ℕ, ◌-◌, ◌^◌, ◌≤◌, cond, eqb, List, [], ◌∷◌, ◌++◌, length, Option, Some, None, refl, sym, ap, subst, ◌∙◌, append-nil, arith}
+use Rattle.std.proofs.Common.{◌≡◌, ℕ, ◌-◌, ◌^◌, ◌≤◌, List, [], ◌∷◌, ◌++◌, length, Result, Ok, Err, refl, ap, arith}
 use Rattle.std.specs.List.{flat_map, AllByRecursion}
-use Rattle.std.proofs.lemmas.Bool.{eqb-true}
-use Rattle.std.proofs.lemmas.List.{nil_from_length}
-use Rattle.std.proofs.lemmas.Option.{cond_some}
 use Rattle.page_store.specs.declared.pages.Sizes.{Sizes}
 use Rattle.table_file.specs.declared.catalogue.Catalogue.{Catalogue}
 use Rattle.table_file.specs.declared.entries.IndexEntry.{IndexEntry}
 use Rattle.table_file.specs.declared.entries.TableEntry.{TableEntry}
 use Rattle.table_file.specs.CatalogueBytes.{AreApart, AreWords, IsCatalogue, IsCatalogueOf, IsIndex, IsNoCatalogue, IsTable, catalogue_bytes, index_bytes}
-use Rattle.table_file.specs.Reading.{◌>>=◌, all_of, are_apart, catalogue_at, indexes_at}
+use Rattle.table_file.specs.Reading.{all_of, are_apart, catalogue_at, indexes_at}
 use Rattle.table_file.proofs.PartReaders.{apart_so, index_reads, so_apart, tables_reads}
-use Rattle.table_file.proofs.Readers.{AreBytes, IsCounted, IsReader, chained_reads, counted_reads, mapped_reads, only_one, said, tested_reads}
-use Rattle.table_file.proofs.Repeats.{bind_some}
+use Rattle.part_codec.proofs.Readers.{IsCounted, IsReader, chained_reads, counted_reads, mapped_reads, only_one, said, tested_reads, whole_is, whole_none}
+use Rattle.qsr_value.proofs.Numbers.{AreBytes}
 
 -- what indexes are in a store of these sizes with these tables
 record AreIndexes (sizes : Sizes) (tables : List TableEntry) (indexes : List IndexEntry) : Type 0 where
@@ -20,11 +17,11 @@ record AreIndexes (sizes : Sizes) (tables : List TableEntry) (indexes : List Ind
   few : length indexes ≤ 16
   apart : AreApart indexes
 
-indexes_reads : (sizes : Sizes) (tables : List TableEntry) → AreWords sizes → IsCounted (IsTable sizes) 0 tables
+indexes_reads : (sizes : Sizes) (tables : List TableEntry) → AreWords sizes → IsCounted (IsTable sizes) 0 16 tables
     → IsReader (indexes_at sizes tables) (λ indexes. length indexes ∷ flat_map index_bytes indexes) (AreIndexes sizes tables)
 unfolding indexes_at
 indexes_reads sizes tables words are =
-    said (AreIndexes sizes tables) (tested_reads are_apart (counted_reads 0 (index_reads sizes tables words are.most are.each)))
+    said (AreIndexes sizes tables) (tested_reads are_apart (counted_reads 0 16 (index_reads sizes tables words are.most are.each)))
     (λ indexes is. record { each = is.0.each; few = is.0.most; apart = apart_so indexes is.1 })
     (λ indexes is. (record { some = omega arith; most = is.few; each = is.each }, so_apart indexes is.apart))
 
@@ -37,25 +34,13 @@ catalogue_reads sizes words =
     (λ c is. ((record { some = omega arith; most = is.few_tables; each = is.tables }, record { each = is.indexes; few = is.few_indexes; apart = is.apart }), refl, refl))
 
 -- what is read as a catalogue is one, and each is read
-pub is_read : (sizes : Sizes) (bytes : List ℕ) (catalogue : Catalogue) → AreWords sizes → AreBytes bytes → all_of sizes bytes ≡ Some catalogue → IsCatalogueOf sizes bytes catalogue
+pub is_read : (sizes : Sizes) (bytes : List ℕ) (catalogue : Catalogue) → AreWords sizes → AreBytes bytes → all_of sizes bytes ≡ Ok catalogue → IsCatalogueOf sizes bytes catalogue
 unfolding all_of
-is_read sizes bytes catalogue words are e =
-    let c = bind_some (catalogue_at sizes bytes) (λ c. cond (eqb (length c.1) 0) (Some c.0) None) catalogue e in
-    let end = cond_some (eqb (length c.0.1) 0) c.0.0 catalogue c.2 in
-    let none : c.0.1 ≡ [] = nil_from_length c.0.1 (eqb-true _ _ end.0) in
-    let found = (catalogue_reads sizes words).takes bytes c.0 are c.1 in
-    subst (λ (k : Catalogue). IsCatalogueOf sizes bytes k) end.1
-    (record { form = found.0; stands = found.1.parts ∙ ap (λ t. catalogue_bytes c.0.0 ++ t) none ∙ append-nil (catalogue_bytes c.0.0) })
+is_read sizes bytes catalogue words are e = let found = whole_is (catalogue_reads sizes words) bytes catalogue are e in record { form = found.0; stands = found.1 }
 
-reads_it : (sizes : Sizes) (bytes : List ℕ) (catalogue : Catalogue) → AreWords sizes → IsCatalogueOf sizes bytes catalogue → all_of sizes bytes ≡ Some catalogue
+pub is_none : (sizes : Sizes) (bytes : List ℕ) (left : ℕ) → AreWords sizes → all_of sizes bytes ≡ Err left → IsNoCatalogue sizes bytes
 unfolding all_of
-reads_it sizes bytes catalogue words is =
-    let g : Catalogue × List ℕ → Option Catalogue = λ c. cond (eqb (length c.1) 0) (Some c.0) None in
-    ap (λ t. catalogue_at sizes t >>= g) (is.stands ∙ sym (append-nil (catalogue_bytes catalogue)))
-    ∙ ap (λ o. o >>= g) ((catalogue_reads sizes words).again catalogue [] is.form)
-
-pub is_none : (sizes : Sizes) (bytes : List ℕ) → AreWords sizes → all_of sizes bytes ≡ None → IsNoCatalogue sizes bytes
-is_none sizes bytes words e catalogue is = let found = reads_it sizes bytes catalogue words is in cc (e, found)
+is_none sizes bytes left words e catalogue is = whole_none (catalogue_reads sizes words) bytes left e catalogue is.form is.stands
 
 -- ---- no two have the same bytes
 

@@ -7,7 +7,7 @@ use Rattle.qsr_value.specs.Encoding.{encoded_row}
 use Rattle.qsr_value.specs.declared.row.Value.{Value}
 use Rattle.qsr_value.specs.declared.schema.Column.{Column}
 use Rattle.row_page.specs.Framed.{rows_bytes}
-use Rattle.row_page.specs.Pages.{count_of}
+use Rattle.row_page.specs.Pages.{page_count_of}
 use Rattle.table_file.specs.Appending.{HasAdded, HasCounted, table_end, written_to}
 use Rattle.table_file.specs.Tables.{FullStand, RowsStand, Table, entry_of, table_pages, table_part}
 use Rattle.table_file.specs.declared.entries.TableEntry.{TableEntry}
@@ -16,7 +16,7 @@ use Rattle.table_file.proofs.PagesOf.{full_count, pages_begun}
 
 -- where the rows of the last page end, also where there is no page
 end_told : {A : Type 0} (encoded : A → List ℕ) (full : List (List A)) (last : List A)
-    → (if count_of full last == 0 then 0 else length (rows_bytes encoded last)) ≡ length (rows_bytes encoded last)
+    → (if page_count_of full last == 0 then 0 else length (rows_bytes encoded last)) ≡ length (rows_bytes encoded last)
 end_told encoded full [] = cond_both (length full == 0) 0 0 (λ (n : ℕ). n ≡ 0) (λ yes. refl) (λ no. refl)
 end_told encoded full (row ∷ rows) = cond-false _ _ _ (ne_eqb (length full + 1) 0 (λ none. absurd (omega (arith, none))))
 

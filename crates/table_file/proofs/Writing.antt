@@ -1,22 +1,24 @@
 -- How a table goes on by a row that a writer adds.
-use Rattle.std.proofs.Common.{◌≡◌, ◌⊎◌, ℕ, ◌+◌, ◌-◌, ◌*◌, ◌<◌, ◌≤◌, nat_le, nat_lt, ◌||◌, ◌&&◌, ◌==◌, List, [], ◌∷◌, ◌++◌, length, take, drop, sym, ap, ◌∙◌, subst, inl, inr, append-nil, append_assoc, arith, length-append, length-drop}
-use Rattle.std.proofs.Math.Seq.{take-append-add, take-append_seam}
+use Rattle.std.proofs.Common.{◌≡◌, ◌⊎◌, ℕ, ◌+◌, ◌-◌, ◌*◌, ◌<◌, ◌≤◌, nat_le, nat_lt, ◌||◌, ◌&&◌, ◌==◌, List, [], ◌∷◌, ◌++◌, length, take, drop, sym, ap, ◌∙◌, subst, inl, inr, append-nil, append_assoc, arith, length-append}
+use Rattle.std.proofs.Math.Seq.{take-append_seam}
 use Rattle.std.proofs.lemmas.Bool.{cases_lt}
 use Rattle.std.proofs.lemmas.Bool.Decides.{nat_tests}
-use Rattle.std.proofs.lemmas.List.{drop-append-le, drop-take, drop_all, length-take-le, take-append-drop, take-append-le, take_all}
+use Rattle.std.proofs.lemmas.List.{drop-append-le, drop_all, length-take-le, take-append-drop, take-append-le, take_all}
 use Rattle.page_store.specs.Store.{AreaHolds, Contents}
+use Rattle.page_store.proofs.AreaPieces.{holds_both}
 use Rattle.page_store.specs.declared.pages.Sizes.{Sizes}
 use Rattle.qsr_value.specs.Encoding.{encoded_row}
 use Rattle.qsr_value.specs.declared.row.Value.{Value}
 use Rattle.qsr_value.specs.declared.schema.Column.{Column}
 use Rattle.row_page.specs.Framed.{framed, rows_bytes}
 use Rattle.row_page.specs.Pages.{Pages, last_end, page_count, page_end}
+use Rattle.row_page.proofs.Framing.{row_behind, rows_bytes-push}
 use Rattle.table_file.specs.Appending.{HasAdded, HasCounted, is_full, written_to}
 use Rattle.table_file.specs.Refusals.{exceeds}
 use Rattle.table_file.specs.Tables.{AreaGrows, FullStand, RowsStand, table_pages, table_part}
 use Rattle.table_file.specs.declared.writer.TableWriter.{TableWriter}
-use Rattle.table_file.proofs.Paging.{count_of-push, on_last, on_next, rows_bytes-push, table_pages-push}
-use Rattle.table_file.proofs.Standing.{full_push, full_still, holds_both, holds_still}
+use Rattle.table_file.proofs.Paging.{count_of-push, on_last, on_next, table_pages-push}
+use Rattle.table_file.proofs.Standing.{full_push, full_still, holds_still}
 
 -- the pages of a table with one row more, which goes on the last of them
 pages_on_last : (columns : List Column) (rows : List (List Value)) (row : List Value) → last_end (encoded_row columns) (table_pages columns rows) + length (framed (encoded_row columns row)) ≤ 4096
@@ -85,17 +87,6 @@ counted_on_next columns rows row old new more next ends long has =
       page = omega (arith, next, page, ap (λ (p : Pages (List Value)). length p.full) pages, length-append full ((table_pages columns rows).last ∷ []));
       end = ends ∙ sym (ap (last_end (encoded_row columns)) pages ∙ ap length (append-nil (framed (encoded_row columns row))));
     }
-
--- a row on a page, behind what is held back there
-row_behind : (front held n : ℕ) (page row rest : List ℕ) → front + held ≤ length page → n ≡ held + length row
-    → take n (drop front (take (front + held) page ++ (row ++ rest))) ≡ take held (drop front page) ++ row
-row_behind front held n page row rest long count =
-    let before : length (take (front + held) page) ≡ front + held = length-take-le (front + held) page long in
-    let has : length (take held (drop front page)) ≡ held = length-take-le held (drop front page) (omega (arith, length-drop front page)) in
-    let all : drop front (take (front + held) page ++ (row ++ rest)) ≡ take held (drop front page) ++ (row ++ rest) =
-    drop-append-le front (take (front + held) page) (row ++ rest) (omega (arith, before)) ∙ ap (λ (l : List ℕ). l ++ (row ++ rest)) (drop-take front held page) in
-    let size : n ≡ length (take held (drop front page)) + length row = omega (arith, has, count) in
-    rw (all, size) (take-append-add (take held (drop front page)) (row ++ rest) (length row) ∙ ap (λ (l : List ℕ). take held (drop front page) ++ l) (take-append_seam row rest))
 
 -- what is held back of bytes that end there, with more behind them
 held_with : (written end next : ℕ) (page put more rest bytes : List ℕ) → written ≤ end → end ≤ length page → next ≡ end + length more → put ≡ take end page ++ (more ++ rest)

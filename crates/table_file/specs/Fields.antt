@@ -7,25 +7,25 @@ use Rattle.qsr_value.specs.declared.kind.ColKind.TheVariants as kinds
 use Rattle.qsr_value.specs.declared.row.Value.{Value}
 use Rattle.qsr_value.specs.declared.row.Value.TheVariants.{Int, Text}
 use Rattle.qsr_value.specs.declared.schema.Column.{Column}
-use Rattle.table_file.specs.Number.{number_of}
+use Rattle.qsr_value.specs.Number.{number_of}
 use Rattle.table_file.specs.declared.fault.TableFault.{TableFault}
 use Rattle.table_file.specs.declared.fault.TableFault.TheVariants.{Exists, CatalogFull, RowTooWide, NoTable, BadField, TableFull, NotStore, Failed, Memory}
 
 -- one byte more in front of the first field
-abbrev pub longer : ℕ → List (List ℕ) → List (List ℕ)
-longer byte [] = (byte ∷ []) ∷ []
-longer byte (field ∷ fields) = (byte ∷ field) ∷ fields
+abbrev pub longer_field : ℕ → List (List ℕ) → List (List ℕ)
+longer_field byte [] = (byte ∷ []) ∷ []
+longer_field byte (field ∷ fields) = (byte ∷ field) ∷ fields
 
 -- The fields of a line: what stands between its tabs. A line with no tab is one field, an empty one too.
 abbrev pub fields_of : List ℕ → List (List ℕ)
 fields_of [] = [] ∷ []
-fields_of (byte ∷ bytes) = if byte == 9 then [] ∷ fields_of bytes else longer byte (fields_of bytes)
+fields_of (byte ∷ bytes) = if byte == 9 then [] ∷ fields_of bytes else longer_field byte (fields_of bytes)
 
 -- the value of a column of this kind that a field is: a number of 64 bits, or a text in UTF-8 that isn't too long
-abbrev pub value_of : ColKind → List ℕ → Option Value
-value_of kinds.Int field = option_map Int (number_of field)
-value_of kinds.Wide field = None
-value_of (kinds.Text max) field = if nat_le (length field) max && is_utf8 field then Some (Text field) else None
+abbrev pub value_of_field : ColKind → List ℕ → Option Value
+value_of_field kinds.Int field = option_map Int (number_of field)
+value_of_field kinds.Wide field = None
+value_of_field (kinds.Text max) field = if nat_le (length field) max && is_utf8 field then Some (Text field) else None
 
 abbrev pub with_value : ℕ → Option Value → Result (List Value) ℕ → Result (List Value) ℕ
 with_value number None rest = Err number
@@ -38,7 +38,7 @@ abbrev pub row_of : ℕ → List Column → List (List ℕ) → Result (List Val
 row_of number [] [] = Ok []
 row_of number [] (field ∷ fields) = Err number
 row_of number (column ∷ columns) [] = Err number
-row_of number (column ∷ columns) (field ∷ fields) = with_value number (value_of column.kind field) (row_of (number + 1) columns fields)
+row_of number (column ∷ columns) (field ∷ fields) = with_value number (value_of_field column.kind field) (row_of (number + 1) columns fields)
 
 -- what a line of fields is
 abbrev pub read_row : List Column → List ℕ → Result (List Value) ℕ

@@ -2,8 +2,6 @@ pub mod Appending
 pub mod CatalogueBytes
 pub mod Fields
 pub mod FieldsLeft
-pub mod Number
-pub mod Puts
 pub mod Reading
 pub mod Refusals
 pub mod Tables

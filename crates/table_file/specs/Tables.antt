@@ -10,7 +10,7 @@ use Rattle.qsr_value.specs.Values.{AreTexts, Fits}
 use Rattle.qsr_value.specs.declared.row.Value.{Value}
 use Rattle.qsr_value.specs.declared.schema.Column.{Column}
 use Rattle.row_page.specs.Framed.{rows_bytes}
-use Rattle.row_page.specs.Pages.{Pages, ended, last_end, page_count, pages_of}
+use Rattle.row_page.specs.Pages.{Pages, ended, last_end, page_count, pages_of_rows}
 use Rattle.table_file.specs.CatalogueBytes.{IsCatalogue, catalogue_bytes}
 use Rattle.table_file.specs.declared.entries.TableEntry.{TableEntry}
 use Rattle.table_file.specs.declared.entries.IndexEntry.{IndexEntry}
@@ -32,7 +32,7 @@ no_tables = record { tables = []; indexes = [] }
 
 -- the pages that the rows of a table take
 abbrev pub table_pages : List Column → List (List Value) → Pages (List Value)
-table_pages columns rows = pages_of (encoded_row columns) 4096 rows
+table_pages columns rows = pages_of_rows (encoded_row columns) 4096 rows
 
 -- what the catalogue says of a table
 unfoldable pub entry_of : Table → TableEntry

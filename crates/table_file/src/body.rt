@@ -1,12 +1,14 @@
 // The body of the catalogue: its bytes from a catalogue, and a catalogue from its bytes.
 
-ghost use Rattle.std.specs.Prelude.{◌≡◌, ◌^◌, ◌<◌, ◌≤◌, length, take, IfOk, MatchOption};
+ghost use Rattle.std.specs.Prelude.{◌≡◌, ◌≤◌, length, take, IfOk, MatchOption};
 ghost use Rattle.table_file.specs.CatalogueBytes.{IsCatalogueOf, IsNoCatalogue, IsOfStore, catalogue_bytes};
 
 use crate::catalogue::Catalogue;
 use crate::entry_bytes::{put_indexes, put_tables};
-use crate::reading::{Unread, all_of};
+use crate::laws;
+use crate::reading::all_of;
 use page_store::Sizes;
+use part_codec::Unread;
 use qsr_value::Memory;
 use std::alloc::Global;
 
@@ -21,19 +23,14 @@ pub(crate) fn read_catalogue(
 ) -> Result<Option<Catalogue>, Memory>
     ensures { IfOk result (λ found. MatchOption found (IsNoCatalogue sizes.now body.now) (IsCatalogueOf sizes.now body.now)) }
 {
-    are_words(sizes.table, sizes.index);
+    // For the proof: a number of pages that is written is read back, since it is one of four bytes.
+    laws::are_words(sizes.table, sizes.index);
     match all_of(alloc, sizes, body) {
         Ok(catalogue) => Ok(Some(catalogue)),
-        Err(Unread::Bad) => Ok(None),
+        Err(Unread::Bad { .. }) => Ok(None),
         Err(Unread::Memory) => Err(Memory),
     }
 }
-
-/// The numbers of pages of a store are of four bytes.
-pub(crate) fn are_words(table: u32, index: u32)
-    ensures table { table < 2 ^ 32 }
-    ensures index { index < 2 ^ 32 }
-{}
 
 /// Writes the bytes of a catalogue to the front of a buffer, and answers how many they are.
 pub(crate) fn put_catalogue(catalogue: &Catalogue, body: &mut [u8; BODY_BYTES]) -> usize

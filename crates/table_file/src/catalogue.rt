@@ -7,23 +7,16 @@ ghost use Rattle.qsr_value.specs.Encoding.{encoded_row};
 ghost use Rattle.qsr_value.specs.Values.{AreTexts, Fits};
 ghost use Rattle.table_file.specs.Tables.{of_others};
 
-use crate::body::{BODY_BYTES, are_words, put_catalogue, read_catalogue};
-use crate::laws::{catalogues_are_exact, more_rows_exceed};
+use crate::body::{BODY_BYTES, put_catalogue, read_catalogue};
 use crate::names::repeats_name;
 use crate::writer::TableWriter;
-use crate::{IndexEntry, TableEntry, TableFault, TableList};
+use crate::{IndexEntry, TableEntry, TableFault, TableList, laws};
 use disk_model::Disk;
 use page_store::{Area, Store, StoreFault, Twin};
-use qsr_value::{Failed, Row, Schema, Txt, encodings_are_exact};
+use qsr_value::{Failed, MAX_TABLES, MAX_WIDTH, Row, Schema, Txt};
 use row_page::rows_end;
 use sqlite_items::Items;
 use std::alloc::Global;
-
-/// How many tables a store has at most.
-const MAX_TABLES: usize = 16;
-
-/// What a row may have at most.
-const MAX_WIDTH: u32 = 1000;
 
 /// The catalogue of a store. A table's number is its place, and that of its area.
 #[derive(Debug, Drop)]
@@ -40,7 +33,7 @@ impl Catalogue {
     ghost use Rattle.qsr_value.specs.declared.row.Value.{Value};
     ghost use Rattle.row_page.specs.Framed.{rows_bytes};
     ghost use Rattle.row_page.specs.Pages.{IsNoPage};
-    ghost use Rattle.table_file.specs.Appending.{HasAdded, HasCounted, IsBehind, grown_entry};
+    ghost use Rattle.table_file.specs.Appending.{HasAdded, HasCounted, IsBehind, grown_entry, with_counts};
     ghost use Rattle.table_file.specs.CatalogueBytes.{IsCatalogue, IsColumn, IsName, IsOfStore, catalogue_bytes};
     ghost use Rattle.qsr_value.specs.Names.{is_among};
     ghost use Rattle.table_file.specs.Refusals.{IsAppendFault, IsCreateFault, IsLoadFault, TableCause, column_names, create_refusal, exceeds, repeats, table_names};
@@ -67,10 +60,12 @@ impl Catalogue {
         ensures writes { D.writes_of store.new.disk.now ≡ D.writes_of store.old.disk.now }
         ensures syncs { D.syncs_of store.new.disk.now ≡ D.syncs_of store.old.disk.now }
     {
-        catalogues_are_exact();
+        // For the proof: where tables stand in the store, it is their catalogue that is read, and no other.
+        laws::catalogues_are_exact();
         let mut body = [0; BODY_BYTES];
         let sizes = store.sizes();
-        are_words(sizes.table, sizes.index);
+        // For the proof: that law asks for numbers of four bytes.
+        laws::are_words(sizes.table, sizes.index);
         let len = match store.current(Twin::Catalogue, &mut body) {
             Ok(len) => len,
             Err(StoreFault::NotStore { page }) => return Err(TableFault::NotStore { page }),
@@ -164,7 +159,8 @@ impl Catalogue {
         ensures writes { D.writes_of store.new.disk.now ≡ D.writes_of store.old.disk.now }
         ensures syncs { D.syncs_of store.new.disk.now ≡ D.syncs_of store.old.disk.now }
     {
-        encodings_are_exact();
+        // For the proof: a row's bytes are no more than its columns are wide.
+        laws::encodings_are_exact();
         store.read(Area::Table(table), page, buf)?;
         let entry = &self.tables.as_slice()[table as usize];
         if page + 1 == entry.pages {
@@ -344,9 +340,25 @@ impl Catalogue {
         } else {
             writer.page + 1
         };
-        self.tables
-            .set_counts(writer.table as usize, writer.rows, pages, writer.end);
+        Catalogue::set_counts(
+            &mut self.tables,
+            writer.table as usize,
+            writer.rows,
+            pages,
+            writer.end,
+        );
         drop_indexes(&mut self.indexes, writer.table);
+    }
+
+    /// Sets how many rows and pages a table has and where the rows of its last page end.
+    fn set_counts(tables: &mut TableList, table: usize, rows: u32, pages: u32, end: u16)
+        requires { table < length tables.old }
+        ensures { (entry : Entry) → slice_get tables.old table ≡ Some entry → tables.new ≡ slice_set tables.old table (with_counts entry rows pages end) }
+    {
+        let entry = tables.get_mut(table);
+        entry.rows = rows;
+        entry.pages = pages;
+        entry.end = end;
     }
 
     /// Adds rows to a table in order, by one commit, and answers how many rows it has then. Where it is refused, the
@@ -425,7 +437,8 @@ impl Catalogue {
         ensures faults { MatchResult result (λ _. D.faults_of store.new.disk.now ≡ D.faults_of store.old.disk.now)
             (λ fault. TableCause fault (D.faults_of store.old.disk.now) (D.faults_of store.new.disk.now)) }
     {
-        more_rows_exceed();
+        // For the proof: where the table has no room for the rows up to one, it has none for all of them.
+        laws::more_rows_exceed();
         for row in rows {
             match writer.push(store, schema, row) {
                 Ok(()) => {}

@@ -1,4 +1,4 @@
-use qsr_value::{Schema, Txt};
+use qsr_value::{ListOf, Schema, Txt};
 
 /// What the catalogue says of a table.
 #[derive(Debug, Drop)]
@@ -10,6 +10,9 @@ pub struct TableEntry {
     /// Where the rows of the last page end.
     pub end: u16,
 }
+
+/// What the catalogue says of its tables, in order.
+pub type TableList = ListOf<TableEntry>;
 
 /// What the catalogue says of an index: of which table and column it is, in which area it stands, and how many entries,
 /// leaves, pages and levels it has.

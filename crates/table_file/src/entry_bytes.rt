@@ -1,64 +1,27 @@
 // The bytes of the parts of a catalogue: each is put into a buffer from a place on, and the place behind it answered.
 
-ghost use Rattle.std.specs.Prelude.{◌+◌, ◌≤◌, [], ◌∷◌, length};
+ghost use Rattle.std.specs.Prelude.{◌+◌, ◌≤◌, ◌∷◌, length};
 ghost use Rattle.std.specs.List.{AllByRecursion, flat_map};
-ghost use Rattle.byteorder.specs.Endian.{little_bytes};
 ghost use Rattle.page_store.specs.declared.pages.Sizes.{Sizes};
+ghost use Rattle.part_codec.specs.Puts.{Puts};
 ghost use Rattle.table_file.specs.CatalogueBytes.{IsColumn, IsName, IsSchema, IsTable, column_bytes, columns_bytes, index_bytes, kind_bytes, name_bytes, table_bytes};
-ghost use Rattle.table_file.specs.Puts.{Puts};
 
 use crate::{IndexEntry, TableEntry};
-use byteorder::{ByteOrder, LittleEndian};
+use part_codec::{put_byte, put_bytes, put_short_text, put_u16, put_u32};
 use qsr_value::{ColKind, Column, Schema};
 
-/// Bytes as they are.
-fn put_bytes(bytes: &[u8], body: &mut [u8], at: usize) -> usize
-    requires { at + length bytes.now ≤ length body.old }
-    ensures { Puts body.old at bytes.now body.new result }
-{
-    let end = at + bytes.len();
-    body[at..end].copy_from_slice(bytes);
-    end
-}
-
-fn put_byte(byte: u8, body: &mut [u8], at: usize) -> usize
-    requires { at + 1 ≤ length body.old }
-    ensures { Puts body.old at (byte ∷ []) body.new result }
-{
-    put_bytes(&[byte], body, at)
-}
-
-fn put_u16(number: u16, body: &mut [u8], at: usize) -> usize
-    requires { at + 2 ≤ length body.old }
-    ensures { Puts body.old at (little_bytes 2 number) body.new result }
-{
-    let mut bytes = [0; 2];
-    LittleEndian::write_u16(&mut bytes, number);
-    put_bytes(&bytes, body, at)
-}
-
-fn put_u32(number: u32, body: &mut [u8], at: usize) -> usize
-    requires { at + 4 ≤ length body.old }
-    ensures { Puts body.old at (little_bytes 4 number) body.new result }
-{
-    let mut bytes = [0; 4];
-    LittleEndian::write_u32(&mut bytes, number);
-    put_bytes(&bytes, body, at)
-}
-
 /// A name, behind its length in one byte.
-#[tactic(auto, unfolding(crate::specs::CatalogueBytes::name_bytes), using(crate::proofs::Putting::then_puts))]
+#[tactic(auto, unfolding(crate::specs::CatalogueBytes::name_bytes))]
 fn put_name(name: &str, body: &mut [u8], at: usize) -> usize
     requires name { IsName name.now }
     requires room { at + length (name_bytes name.now) ≤ length body.old }
     ensures { Puts body.old at (name_bytes name.now) body.new result }
 {
-    let at = put_byte(name.len() as u8, body, at);
-    put_bytes(name.as_bytes(), body, at)
+    put_short_text(name, body, at)
 }
 
 /// What the values of a column are, and how many bytes a text has at most.
-#[tactic(auto, unfolding(crate::specs::CatalogueBytes::kind_bytes), using(crate::proofs::Putting::then_puts))]
+#[tactic(auto, unfolding(crate::specs::CatalogueBytes::kind_bytes), using(part_codec::proofs::Putting::then_puts))]
 fn put_kind(kind: ColKind, body: &mut [u8], at: usize) -> usize
     requires { at + length (kind_bytes kind) ≤ length body.old }
     ensures { Puts body.old at (kind_bytes kind) body.new result }
@@ -77,7 +40,7 @@ fn put_kind(kind: ColKind, body: &mut [u8], at: usize) -> usize
     }
 }
 
-#[tactic(auto, unfolding(crate::specs::CatalogueBytes::column_bytes), using(crate::proofs::Putting::then_puts))]
+#[tactic(auto, unfolding(crate::specs::CatalogueBytes::column_bytes), using(part_codec::proofs::Putting::then_puts))]
 fn put_column(column: &Column, body: &mut [u8], at: usize) -> usize
     requires column { IsColumn column.now }
     requires room { at + length (column_bytes column.now) ≤ length body.old }
@@ -100,7 +63,7 @@ fn put_columns(columns: &[Column], body: &mut [u8], at: usize) -> usize
 }
 
 /// Columns behind their number.
-#[tactic(auto, unfolding(crate::specs::CatalogueBytes::columns_bytes), using(crate::proofs::Putting::then_puts))]
+#[tactic(auto, unfolding(crate::specs::CatalogueBytes::columns_bytes), using(part_codec::proofs::Putting::then_puts))]
 fn put_schema(schema: &Schema, body: &mut [u8], at: usize) -> usize
     requires schema { IsSchema schema.now }
     requires room { at + length (columns_bytes schema.now) ≤ length body.old }
@@ -111,7 +74,7 @@ fn put_schema(schema: &Schema, body: &mut [u8], at: usize) -> usize
 }
 
 /// A table: its name, its columns, its rows and pages, and where the rows of the last page end.
-#[tactic(auto, unfolding(crate::specs::CatalogueBytes::table_bytes), using(crate::proofs::Putting::then_puts))]
+#[tactic(auto, unfolding(crate::specs::CatalogueBytes::table_bytes), using(part_codec::proofs::Putting::then_puts))]
 fn put_table(table: &TableEntry, body: &mut [u8], at: usize) -> usize
     requires table { (sizes : Sizes) × IsTable sizes table.now }
     requires room { at + length (table_bytes table.now) ≤ length body.old }
@@ -137,7 +100,7 @@ fn put_all_tables(tables: &[TableEntry], body: &mut [u8], at: usize) -> usize
 }
 
 /// Tables behind their number.
-#[tactic(auto, using(crate::proofs::Putting::then_puts))]
+#[tactic(auto, using(part_codec::proofs::Putting::then_puts))]
 pub(crate) fn put_tables(tables: &[TableEntry], body: &mut [u8], at: usize) -> usize
     requires each { (sizes : Sizes) × AllByRecursion (IsTable sizes) tables.now }
     requires few { length tables.now ≤ 16 }
@@ -149,7 +112,7 @@ pub(crate) fn put_tables(tables: &[TableEntry], body: &mut [u8], at: usize) -> u
 }
 
 /// An index: its table, the column, its area, and its entries, leaves, pages and levels.
-#[tactic(auto, unfolding(crate::specs::CatalogueBytes::index_bytes), using(crate::proofs::Putting::then_puts))]
+#[tactic(auto, unfolding(crate::specs::CatalogueBytes::index_bytes), using(part_codec::proofs::Putting::then_puts))]
 fn put_index(index: &IndexEntry, body: &mut [u8], at: usize) -> usize
     requires { at + 16 ≤ length body.old }
     ensures { Puts body.old at (index_bytes index.now) body.new result }
@@ -173,7 +136,7 @@ fn put_all_indexes(indexes: &[IndexEntry], body: &mut [u8], at: usize) -> usize
 }
 
 /// Indexes behind their number.
-#[tactic(auto, using(crate::proofs::Putting::then_puts))]
+#[tactic(auto, using(part_codec::proofs::Putting::then_puts))]
 pub(crate) fn put_indexes(indexes: &[IndexEntry], body: &mut [u8], at: usize) -> usize
     requires few { length indexes.now ≤ 16 }
     requires room { at + length (length indexes.now ∷ flat_map index_bytes indexes.now) ≤ length body.old }

@@ -2,12 +2,11 @@
 
 ghost use Rattle.std.specs.Prelude.{◌≡◌, ◌+◌, ◌≤◌, ◌∷◌, length, take, drop, Ok, IfOk, IfErr, IfSome, option_map};
 ghost use Rattle.qsr_value.specs.Values.{AreTexts, Fits, IsOfKind, IsText};
-ghost use Rattle.table_file.specs.Fields.{IsFieldFault, fields_of, read_row, value_of};
+ghost use Rattle.table_file.specs.Fields.{IsFieldFault, fields_of, read_row, value_of_field};
 ghost use Rattle.table_file.specs.FieldsLeft.{fields_behind, fields_from};
 
 use crate::TableFault;
-use crate::number::number_of;
-use qsr_value::{ColKind, Memory, Row, Schema, Txt, Value};
+use qsr_value::{ColKind, Memory, Row, Schema, Txt, Value, number_of};
 use std::alloc::Global;
 use std::str;
 
@@ -82,7 +81,7 @@ fn next_field(text: &[u8], end: usize) -> Option<usize>
 
 /// Reads a field as a value of a column of this kind. None where it is no such value.
 fn read_value(alloc: Global, kind: ColKind, field: &[u8]) -> Result<Option<Value>, Memory>
-    ensures value { IfOk result (λ found. found ≡ value_of kind field.now) }
+    ensures value { IfOk result (λ found. found ≡ value_of_field kind field.now) }
     ensures fits { IfOk result (λ found. IfSome found (λ value. IsOfKind kind value × IsText value)) }
 {
     match kind {
@@ -97,7 +96,7 @@ fn read_value(alloc: Global, kind: ColKind, field: &[u8]) -> Result<Option<Value
 
 /// Reads a field as a number of 64 bits.
 fn read_int(field: &[u8]) -> Option<Value>
-    ensures value { result ≡ value_of ColKind.Int field.now }
+    ensures value { result ≡ value_of_field ColKind.Int field.now }
     ensures fits { IfSome result (λ value. IsOfKind ColKind.Int value × IsText value) }
 {
     let number = number_of(field)?;
@@ -106,7 +105,7 @@ fn read_int(field: &[u8]) -> Option<Value>
 
 /// The field as a text of at most `max` bytes. None where it is longer, or not UTF-8.
 fn text_of(max: u16, field: &[u8]) -> Option<&str>
-    ensures value { option_map (λ text. Value.Text text.now) result ≡ value_of (ColKind.Text max) field.now }
+    ensures value { option_map (λ text. Value.Text text.now) result ≡ value_of_field (ColKind.Text max) field.now }
     ensures fits { IfSome result (λ text. IsOfKind (ColKind.Text max) (Value.Text text.now) × IsText (Value.Text text.now)) }
 {
     if field.len() > max as usize {

@@ -1,123 +1,25 @@
 // The parts of a catalogue, read from the front of bytes: each reader answers the part and the bytes behind it.
 
 ghost use Rattle.std.specs.Prelude.{◌≡◌, slice_get};
-ghost use Rattle.table_file.specs.Reading.{Gives, all_of, are_apart, byte_at, catalogue_at, column_at, entry_at, has_area, has_column, index_at, indexes_at, is_index_of, kind_at, name_at, number_at, repeated, schema_at, table_at, tables_at, text_at};
+ghost use Rattle.part_codec.specs.Reading.{Gives, list_at};
+ghost use Rattle.table_file.specs.Reading.{all_of, are_apart, catalogue_at, column_at, entry_at, has_area, has_column, index_at, indexes_at, is_index_of, kind_at, name_at, schema_at, table_at, tables_at};
 
 use crate::catalogue::Catalogue;
-use crate::{IndexEntry, MAX_ROWS, TableEntry, TableList};
-use byteorder::{ByteOrder, LittleEndian};
+use crate::{IndexEntry, TableEntry, TableList};
 use page_store::Sizes;
-use qsr_value::{ColKind, Column, Memory, Schema, Txt};
+use part_codec::{Unread, byte_of, short_text_of, u16_of, u32_of};
+use qsr_value::{
+    ColKind, Column, MAX_COLUMNS, MAX_INDEXES, MAX_ROWS, MAX_TABLES, MAX_WIDTH, Schema, Txt,
+};
 use sqlite_items::Items;
-use std::alloc::{AllocError, Global};
-use std::str;
-
-/// How many columns a table has at most, and how many tables and indexes a store has.
-const MAX_COUNT: u8 = 16;
-
-/// How many bytes a row has at most.
-const MAX_WIDTH: u32 = 1000;
-
-/// Why bytes gave no part of a catalogue.
-#[derive(Drop)]
-pub(crate) enum Unread {
-    Memory,
-    Bad,
-}
-
-impl From<Memory> for Unread {
-    ghost use Rattle.std.specs.Prelude.{◌≡◌};
-    ghost use Rattle.table_file.specs.declared.reading.Unread.{Unread};
-
-    ghost from_gives = { λ _ e. e ≡ Unread.Memory };
-
-    fn from(_error: Memory) -> Unread {
-        Unread::Memory
-    }
-}
-
-impl From<AllocError> for Unread {
-    ghost use Rattle.std.specs.Prelude.{◌≡◌};
-    ghost use Rattle.table_file.specs.declared.reading.Unread.{Unread};
-
-    ghost from_gives = { λ _ e. e ≡ Unread.Memory };
-
-    fn from(_error: AllocError) -> Unread {
-        Unread::Memory
-    }
-}
-
-/// A byte within these limits.
-#[tactic(auto, unfolding(crate::specs::Reading::byte_at))]
-fn byte_of(least: u8, most: u8, bytes: &[u8]) -> Result<(u8, &[u8]), Unread>
-    ensures { Gives (λ x. (x.0, x.1.now)) result (byte_at least most bytes.now) }
-{
-    match bytes {
-        [] => Err(Unread::Bad),
-        [byte, rest @ ..] => {
-            if *byte < least || most < *byte {
-                return Err(Unread::Bad);
-            }
-            Ok((*byte, rest))
-        }
-    }
-}
-
-/// A number of two bytes within these limits.
-#[tactic(auto, unfolding(crate::specs::Reading::number_at))]
-fn u16_of(least: u16, most: u16, bytes: &[u8]) -> Result<(u16, &[u8]), Unread>
-    ensures { Gives (λ x. (x.0, x.1.now)) result (number_at 2 least most bytes.now) }
-{
-    if bytes.len() < 2 {
-        return Err(Unread::Bad);
-    }
-    let number = LittleEndian::read_u16(bytes);
-    if number < least || most < number {
-        return Err(Unread::Bad);
-    }
-    let (_, rest) = bytes.split_at(2);
-    Ok((number, rest))
-}
-
-/// A number of four bytes, which is at most this.
-#[tactic(auto, unfolding(crate::specs::Reading::number_at))]
-fn u32_of(most: u32, bytes: &[u8]) -> Result<(u32, &[u8]), Unread>
-    ensures { Gives (λ x. (x.0, x.1.now)) result (number_at 4 0 most bytes.now) }
-{
-    if bytes.len() < 4 {
-        return Err(Unread::Bad);
-    }
-    let number = LittleEndian::read_u32(bytes);
-    if most < number {
-        return Err(Unread::Bad);
-    }
-    let (_, rest) = bytes.split_at(4);
-    Ok((number, rest))
-}
-
-/// A text of so many bytes.
-#[tactic(auto, unfolding(crate::specs::Reading::text_at))]
-fn text_of(alloc: Global, size: u8, bytes: &[u8]) -> Result<(Txt, &[u8]), Unread>
-    ensures { Gives (λ x. (x.0, x.1.now)) result (text_at size bytes.now) }
-{
-    let size = size as usize;
-    if bytes.len() < size {
-        return Err(Unread::Bad);
-    }
-    let (front, rest) = bytes.split_at(size);
-    match str::from_utf8(front) {
-        Ok(text) => Ok((Txt::from_str(alloc, text)?, rest)),
-        Err(_) => Err(Unread::Bad),
-    }
-}
+use std::alloc::Global;
 
 /// A name, behind its length in one byte.
 #[tactic(auto, unfolding(crate::specs::Reading::name_at))]
 fn name_of(alloc: Global, bytes: &[u8]) -> Result<(Txt, &[u8]), Unread>
     ensures { Gives (λ x. (x.0, x.1.now)) result (name_at bytes.now) }
 {
-    let (size, rest) = byte_of(1, 16, bytes)?;
-    text_of(alloc, size, rest)
+    short_text_of(alloc, 1, 16, bytes)
 }
 
 /// What the values of a column are. Behind the kind stands how many bytes a text has at most, and 0 for numbers.
@@ -144,7 +46,7 @@ fn column_of(alloc: Global, bytes: &[u8]) -> Result<(Column, &[u8]), Unread>
 }
 
 fn columns_of(alloc: Global, count: u8, bytes: &[u8]) -> Result<(Schema, &[u8]), Unread>
-    ensures { Gives (λ x. (x.0, x.1.now)) result (repeated column_at count bytes.now) }
+    ensures { Gives (λ x. (x.0, x.1.now)) result (list_at column_at count bytes.now) }
 {
     let mut columns = Schema::new(alloc);
     let mut rest = bytes;
@@ -161,10 +63,10 @@ fn columns_of(alloc: Global, count: u8, bytes: &[u8]) -> Result<(Schema, &[u8]),
 fn schema_of(alloc: Global, bytes: &[u8]) -> Result<(Schema, &[u8]), Unread>
     ensures { Gives (λ x. (x.0, x.1.now)) result (schema_at bytes.now) }
 {
-    let (count, rest) = byte_of(1, MAX_COUNT, bytes)?;
+    let (count, rest) = byte_of(1, MAX_COLUMNS as u8, bytes)?;
     let (columns, rest) = columns_of(alloc, count, rest)?;
     if MAX_WIDTH < columns.width() {
-        return Err(Unread::Bad);
+        return Err(Unread::Bad { left: bytes.len() });
     }
     Ok((columns, rest))
 }
@@ -179,8 +81,8 @@ fn table_of<'a>(
 {
     let (name, rest) = name_of(alloc, bytes)?;
     let (schema, rest) = schema_of(alloc, rest)?;
-    let (rows, rest) = u32_of(MAX_ROWS, rest)?;
-    let (pages, rest) = u32_of(sizes.table, rest)?;
+    let (rows, rest) = u32_of(0, MAX_ROWS, rest)?;
+    let (pages, rest) = u32_of(0, sizes.table, rest)?;
     let (end, rest) = u16_of(0, 4096, rest)?;
     let table = TableEntry {
         name,
@@ -198,7 +100,7 @@ fn some_tables_of<'a>(
     count: u8,
     bytes: &'a [u8],
 ) -> Result<(TableList, &'a [u8]), Unread>
-    ensures { Gives (λ x. (x.0, x.1.now)) result (repeated (table_at sizes.now) count bytes.now) }
+    ensures { Gives (λ x. (x.0, x.1.now)) result (list_at (table_at sizes.now) count bytes.now) }
 {
     let mut tables = TableList::new(alloc);
     let mut rest = bytes;
@@ -219,7 +121,7 @@ fn tables_of<'a>(
 ) -> Result<(TableList, &'a [u8]), Unread>
     ensures { Gives (λ x. (x.0, x.1.now)) result (tables_at sizes.now bytes.now) }
 {
-    let (count, rest) = byte_of(0, MAX_COUNT, bytes)?;
+    let (count, rest) = byte_of(0, MAX_TABLES as u8, bytes)?;
     some_tables_of(alloc, sizes, count, rest)
 }
 
@@ -231,9 +133,9 @@ fn entry_of<'a>(sizes: &Sizes, bytes: &'a [u8]) -> Result<(IndexEntry, &'a [u8])
     let (table, rest) = byte_of(0, 255, bytes)?;
     let (column, rest) = byte_of(0, 255, rest)?;
     let (area, rest) = byte_of(0, 15, rest)?;
-    let (rows, rest) = u32_of(MAX_ROWS, rest)?;
-    let (leaves, rest) = u32_of(sizes.index, rest)?;
-    let (pages, rest) = u32_of(sizes.index, rest)?;
+    let (rows, rest) = u32_of(0, MAX_ROWS, rest)?;
+    let (leaves, rest) = u32_of(0, sizes.index, rest)?;
+    let (pages, rest) = u32_of(0, sizes.index, rest)?;
     let (height, rest) = byte_of(0, 255, rest)?;
     let entry = IndexEntry {
         table,
@@ -275,7 +177,7 @@ fn index_of<'a>(
 {
     let (index, rest) = entry_of(sizes, bytes)?;
     if !is_index_of(tables, &index) {
-        return Err(Unread::Bad);
+        return Err(Unread::Bad { left: bytes.len() });
     }
     Ok((index, rest))
 }
@@ -287,7 +189,7 @@ fn some_indexes_of<'a>(
     count: u8,
     bytes: &'a [u8],
 ) -> Result<(Items<IndexEntry>, &'a [u8]), Unread>
-    ensures { Gives (λ x. (x.0, x.1.now)) result (repeated (index_at sizes.now tables.now) count bytes.now) }
+    ensures { Gives (λ x. (x.0, x.1.now)) result (list_at (index_at sizes.now tables.now) count bytes.now) }
 {
     let mut indexes = Items::new(alloc);
     let mut rest = bytes;
@@ -330,10 +232,10 @@ fn indexes_of<'a>(
 ) -> Result<(Items<IndexEntry>, &'a [u8]), Unread>
     ensures { Gives (λ x. (x.0, x.1.now)) result (indexes_at sizes.now tables.now bytes.now) }
 {
-    let (count, rest) = byte_of(0, MAX_COUNT, bytes)?;
+    let (count, rest) = byte_of(0, MAX_INDEXES as u8, bytes)?;
     let (indexes, rest) = some_indexes_of(alloc, sizes, tables, count, rest)?;
     if !are_apart(indexes.as_slice()) {
-        return Err(Unread::Bad);
+        return Err(Unread::Bad { left: bytes.len() });
     }
     Ok((indexes, rest))
 }
@@ -358,7 +260,7 @@ pub(crate) fn all_of(alloc: Global, sizes: &Sizes, bytes: &[u8]) -> Result<Catal
 {
     let (catalogue, rest) = catalogue_of(alloc, sizes, bytes)?;
     if !rest.is_empty() {
-        return Err(Unread::Bad);
+        return Err(Unread::Bad { left: rest.len() });
     }
     Ok(catalogue)
 }

@@ -6,19 +6,13 @@ ghost use Rattle.qsr_value.specs.Causes.{CountsFault, next_count};
 ghost use Rattle.qsr_value.specs.Columns.{width_of};
 ghost use Rattle.qsr_value.specs.Encoding.{encoded_row};
 ghost use Rattle.qsr_value.specs.Values.{AreTexts, Fits};
-ghost use Rattle.table_file.specs.declared.writer.TheConstants.{MAX_ROWS, PAGE_BYTES};
+ghost use Rattle.qsr_value.specs.declared.limits.TheConstants.{MAX_ROWS, PAGE_BYTES};
 
-use crate::{TableEntry, TableFault};
+use crate::{TableEntry, TableFault, laws};
 use disk_model::Disk;
 use page_store::{Area, Store};
-use qsr_value::{Failed, NoRoom, Row, Schema, encodings_are_exact};
+use qsr_value::{Failed, MAX_ROWS, NoRoom, PAGE_BYTES, Row, Schema};
 use row_page::{end_page, put_row};
-
-/// How many bytes a page has.
-const PAGE_BYTES: usize = 4096;
-
-/// How many rows a table has at most.
-pub const MAX_ROWS: u32 = 1_048_575;
 
 /// Adds rows to a table, behind those that it has. They aren't the table's before the catalogue tells of them.
 #[derive(Drop)]
@@ -132,7 +126,8 @@ impl TableWriter {
         ensures as_before { OnErr result (self.new ≡ self.old) }
         ensures texts { AreTexts row.now }
     {
-        encodings_are_exact();
+        // For the proof: a row's bytes are no more than its columns are wide.
+        laws::encodings_are_exact();
         let end = put_row(&mut self.bytes, self.end as usize, row, schema)?;
         self.rows += 1;
         self.end = end as u16;
@@ -174,7 +169,7 @@ impl TableWriter {
         if self.page + 1 == store.sizes().table {
             return Err(TableFault::TableFull);
         }
-        let Ok(()) = self.turn(store) else {
+        let Ok(()) = self.next_page(store) else {
             return Err(TableFault::Failed);
         };
         // A page without rows has room for each row.
@@ -185,7 +180,7 @@ impl TableWriter {
     }
 
     /// Ends the page, writes what is held back of it, by one device write at most, and goes on to the next.
-    fn turn<D: Disk>(&mut self, store: &mut Store<'_, D>) -> Result<(), Failed>
+    fn next_page<D: Disk>(&mut self, store: &mut Store<'_, D>) -> Result<(), Failed>
         requires page { self.old.page + 1 < store.old.sizes.table }
         ensures stands { OnOk result ((columns : List Column) (rows : List (List Value)) → ((store_view store.old).honest → HasAdded columns rows self.old (store_view store.old).seen)
             → (store_view store.new).honest

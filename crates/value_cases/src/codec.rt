@@ -4,10 +4,10 @@ use anyhow::{Context, Result, ensure};
 use case_kit::{
     bytes_of, fits, number_first, push_escaped, range_of, row_of, show_bytes, show_row,
 };
-use qsr_value::{Row, Schema, decode_row, encode_row};
+use qsr_value::{Row, Schema, decode_row, encode_row, number_of};
 use std::alloc::Global;
 use std::fmt::Write;
-use table_file::{number_of, read_fields};
+use table_file::read_fields;
 
 /// What stands at each place before a row is written.
 const BEFORE: u8 = 0xEE;

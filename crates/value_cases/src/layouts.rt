@@ -4,9 +4,9 @@ ghost use Rattle.std.specs.Prelude.{◌^◌, ◌<◌, IsTrue};
 
 use anyhow::{Context, Result, bail, ensure};
 use case_kit::{byte_of, bytes_of, show_bytes};
-use qsr_layout::records::{JOB_HEAD, SLOT_HEAD, STORE_HEAD};
-use qsr_layout::{Field, Layout, PAGE_BYTES, read_field, write_field};
-use qsr_value::ListOf;
+use qsr_layout::records::{SLOT_HEAD, STORE_HEAD};
+use qsr_layout::{Field, Layout, read_field, write_field};
+use qsr_value::{ListOf, PAGE_BYTES};
 use std::alloc::Global;
 use std::fmt::Write;
 
@@ -203,7 +203,6 @@ fn named(alloc: Global, into: &mut String, call: Call, rest: &str) -> Result<()>
     match name {
         "store" => on_record(alloc, into, &STORE_HEAD, call, fill, rest),
         "slot" => on_record(alloc, into, &SLOT_HEAD, call, fill, rest),
-        "job" => on_record(alloc, into, &JOB_HEAD, call, fill, rest),
         "last" => on_record(alloc, into, &LAST, call, fill, rest),
         _ => bail!("no such record: {name}"),
     }

@@ -1,4 +1,4 @@
-//! Calls on streams, lists, texts, rows, pages of rows and records, as cases: each makes calls and says what came of them, which is compared
+//! Calls on streams, lists, texts, rows, pages of rows, records and parts of formats, as cases: each makes calls and says what came of them, which is compared
 //! with what the case wants. The head of the stored input tells the form.
 #![tactic(auto)]
 
@@ -7,6 +7,7 @@ mod compare;
 mod layouts;
 mod lists;
 mod pages;
+mod parts;
 mod streams;
 
 use anyhow::Result;
@@ -35,6 +36,7 @@ impl Values {
                 || lists::make(alloc, columns, said, word, rest)?
                 || codec::make(alloc, columns, said, word, rest)?
                 || pages::make(alloc, columns, said, word, rest)?
+                || parts::make(alloc, said, word, rest)?
                 || streams::make(alloc, said, word, &mut Words::of(rest))?,
         )
     }

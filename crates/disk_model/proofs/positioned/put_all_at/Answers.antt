@@ -1,11 +1,12 @@
 use Rattle.std.proofs.Common.{◌+◌, ◌≤◌, length, drop, arith, length-drop, ◌∙◌}
-use Rattle.disk_model.proofs.Pieces.{slice_to_end, holds_more, holds_still, outside_both}
+use Rattle.qsr_value.proofs.Lists.{slice_to_end}
+use Rattle.disk_model.proofs.Pieces.{holds_more, holds_still, outside_both}
 use Rattle.disk_model.proofs.positioned.put_all_at.Goals as goal
 use Rattle.disk_model.proofs.positioned.put_all_at.Goals.{in-Ok, in-Err}
 
 pub loop-preserved : goal.loop-preserved
 loop-preserved g c =
-    let rest = slice_to_end c.loop.done c.args.bytes.now in
+    let rest = slice_to_end c.args.bytes.now c.loop.done in
     let before = c.loop.invariant in
     elim c.match-write_at.branch [
       | in-Ok w ↦

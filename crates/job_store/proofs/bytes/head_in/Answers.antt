@@ -1,9 +1,8 @@
-use Rattle.std.proofs.Common.{◌∙◌, sym, rules}
-use Rattle.job_store.proofs.HeadLaws.{form_same}
+use Rattle.job_store.proofs.HeadLaws.{is_head, is_none}
 use Rattle.job_store.proofs.bytes.head_in.Goals as goal
 
-pub returns-else-is_head : goal.returns-else-is_head
-returns-else-is_head c = λ head is.
-    let form = form_same c.args.sizes.now head c.in_ok-head.head c.requires c.in_ok-head.ensures.numbers is.form (is.stands ∙ sym c.in_ok-head.ensures.head) in
-    let never = c.if-is_head.ensures.1 form in
-    absurd (search rules)
+pub returns-in-Ok : goal.returns-in-Ok
+returns-in-Ok c = is_head c.args.sizes.now c.args.bytes.now c.in-Ok.head c.requires (record { each = λ i. (c.type_inv.bytes i).fits }) c.in-Ok.ensures.head
+
+pub returns-in-Err-Bad : goal.returns-in-Err-Bad
+returns-in-Err-Bad c = is_none c.args.sizes.now c.args.bytes.now _ c.requires (rw c.in-Err-Bad.field-0-is at c.in-Err-Bad.ensures.head)

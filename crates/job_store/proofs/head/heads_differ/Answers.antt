@@ -1,5 +1,5 @@
 use Rattle.std.proofs.Common.{refl}
-use Rattle.job_store.specs.JobHead.{head_bytes}
+use Rattle.job_store.specs.JobHead.{job_head_bytes}
 use Rattle.job_store.proofs.HeadLaws.{same_head}
 use Rattle.job_store.proofs.head.heads_differ.Goals as goal
 
@@ -7,5 +7,5 @@ pub returns-clause-differ : goal.returns-clause-differ
 returns-clause-differ c = same_head
 
 pub returns-clause-free : goal.returns-clause-free
-unfolding head_bytes
+unfolding job_head_bytes
 returns-clause-free c = refl

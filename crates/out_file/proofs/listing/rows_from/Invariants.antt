@@ -1,7 +1,7 @@
 use Rattle.std.proofs.Common.{◌≡◌, ◌+◌, ◌-◌, ◌*◌, ◌≤◌}
 use Rattle.page_store.specs.Store.{store_view}
 use Rattle.out_file.specs.Reading.{HasPage, OnlyRead, out_area}
-use Rattle.out_file.proofs.Turns.{HasCome}
+use Rattle.out_file.proofs.ListingSteps.{HasCome}
 use Rattle.out_file.proofs.listing.rows_from.Given as goal
 
 -- the listing has come to `at`, `number` rows behind the start; only pages were read, and no call failed

@@ -1,7 +1,7 @@
 use Rattle.std.proofs.Common.{◌≡◌, ℕ, suc, ◌+◌, ◌*◌, ◌<◌, ◌∙◌, ap, subst, sym, arith}
 use Rattle.disk_model.specs.Image.{Image}
 use Rattle.disk_model.proofs.Runs.{steps_twice, weaker_steps}
-use Rattle.qsr_value.specs.Causes.{count_behind}
+use Rattle.qsr_value.specs.Causes.{count_after}
 use Rattle.page_store.specs.Format.{SameBelow}
 use Rattle.page_store.proofs.Images.{SameBelow-fewer, SameBelow-twice, job_made, one_more_job}
 use Rattle.page_store.proofs.PageLaws.{job_behind, job_within}
@@ -40,5 +40,5 @@ loop-job-preserved g c =
       syncs = c.write_twin.ensures.syncs ∙ c.loop-job.invariant.syncs;
       writes =
           let more : 2 * (c.loop-job.job + 1) ≡ suc (suc (2 * c.loop-job.job)) = omega arith in
-          c.in_ok-write_twin.ensures.writes ∙ ap (count_behind 2) c.loop-job.invariant.writes ∙ ap (λ (n : ℕ). count_behind n (g.D.Disk.writes_of c.args.disk.now)) (sym more);
+          c.in_ok-write_twin.ensures.writes ∙ ap (count_after 2) c.loop-job.invariant.writes ∙ ap (λ (n : ℕ). count_after n (g.D.Disk.writes_of c.args.disk.now)) (sym more);
     }

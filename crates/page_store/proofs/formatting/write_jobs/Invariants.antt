@@ -1,6 +1,6 @@
 use Rattle.std.proofs.Common.{◌≡◌, ℕ, ◌*◌, ◌<◌}
 use Rattle.disk_model.specs.View.{Steps}
-use Rattle.qsr_value.specs.Causes.{count_behind}
+use Rattle.qsr_value.specs.Causes.{count_after}
 use Rattle.page_store.specs.Format.{IsNewJob, SameBelow}
 use Rattle.page_store.proofs.formatting.write_jobs.Given as goal
 
@@ -13,5 +13,5 @@ invariant-loop-job g l = record {
   faults : g.D.Disk.faults_of l.disk ≡ g.D.Disk.faults_of l.fn.disk;
   reads : g.D.Disk.reads_of l.disk ≡ g.D.Disk.reads_of l.fn.disk;
   syncs : g.D.Disk.syncs_of l.disk ≡ g.D.Disk.syncs_of l.fn.disk;
-  writes : g.D.Disk.writes_of l.disk ≡ count_behind (2 * l.job) (g.D.Disk.writes_of l.fn.disk);
+  writes : g.D.Disk.writes_of l.disk ≡ count_after (2 * l.job) (g.D.Disk.writes_of l.fn.disk);
 }

@@ -1,5 +1,5 @@
 use Rattle.std.proofs.Common.{◌≡◌, ℕ, suc, ◌+◌, ◌*◌, ◌/◌, ◌∙◌, ap, refl, arith, true, false, is_some, subst}
-use Rattle.qsr_value.specs.Causes.{count_behind}
+use Rattle.qsr_value.specs.Causes.{count_after}
 use Rattle.disk_model.specs.Image.{Image}
 use Rattle.disk_model.proofs.Runs.{stays_twice}
 use Rattle.page_store.specs.Store.{twin_at, twin_span}
@@ -35,7 +35,7 @@ loop-number-preserved g c =
       faults = c.in_ok-has_current.ensures.faults ∙ c.loop-number.invariant.faults;
       reads =
           let more : suc (suc (2 * c.loop-number.number)) ≡ 2 * (c.loop-number.number + 1) = omega arith in
-          c.in_ok-has_current.ensures.reads ∙ ap (count_behind 2) c.loop-number.invariant.reads ∙ ap (λ (n : ℕ). count_behind n (g.D.Disk.reads_of c.args.disk.now)) more;
+          c.in_ok-has_current.ensures.reads ∙ ap (count_after 2) c.loop-number.invariant.reads ∙ ap (λ (n : ℕ). count_after n (g.D.Disk.reads_of c.args.disk.now)) more;
       writes = c.has_current.ensures.writes ∙ c.loop-number.invariant.writes;
       syncs = c.has_current.ensures.syncs ∙ c.loop-number.invariant.syncs;
     }
@@ -43,7 +43,7 @@ loop-number-preserved g c =
 pub returns-clause-reads : goal.returns-clause-reads
 returns-clause-reads g c =
     let all : 2 * c.loop-number.number ≡ 18 = omega arith in
-    c.loop-number.invariant.reads ∙ ap (λ (n : ℕ). count_behind n (g.D.Disk.reads_of c.args.disk.now)) all
+    c.loop-number.invariant.reads ∙ ap (λ (n : ℕ). count_after n (g.D.Disk.reads_of c.args.disk.now)) all
 
 pub returns-then-not-branch-clause-reads : goal.returns-then-not-branch-clause-reads
 returns-then-not-branch-clause-reads g c =
@@ -56,5 +56,5 @@ returns-then-not-branch-clause-reads g c =
       twin = number;
       some = omega arith;
       first = omega (arith, at);
-      reads = c.in_ok-has_current.ensures.reads ∙ ap (count_behind 2) c.loop-number.invariant.reads ∙ ap (λ (n : ℕ). count_behind n (g.D.Disk.reads_of c.args.disk.now)) more;
+      reads = c.in_ok-has_current.ensures.reads ∙ ap (count_after 2) c.loop-number.invariant.reads ∙ ap (λ (n : ℕ). count_after n (g.D.Disk.reads_of c.args.disk.now)) more;
     }

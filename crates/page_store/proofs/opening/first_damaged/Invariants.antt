@@ -1,6 +1,6 @@
 use Rattle.std.proofs.Common.{◌≡◌, ◌*◌}
 use Rattle.disk_model.specs.View.{Stays}
-use Rattle.qsr_value.specs.Causes.{count_behind}
+use Rattle.qsr_value.specs.Causes.{count_after}
 use Rattle.page_store.specs.Opening.{AreWhole}
 use Rattle.page_store.specs.Store.{contents_of}
 use Rattle.page_store.proofs.opening.first_damaged.Given as goal
@@ -12,7 +12,7 @@ invariant-loop-number g l = record {
   whole : (g.D.Disk.view l.fn.disk).honest → AreWhole l.number (contents_of l.sizes (g.D.Disk.view l.fn.disk).seen);
   size : g.D.Disk.size_of l.disk ≡ g.D.Disk.size_of l.fn.disk;
   faults : g.D.Disk.faults_of l.disk ≡ g.D.Disk.faults_of l.fn.disk;
-  reads : g.D.Disk.reads_of l.disk ≡ count_behind (2 * l.number) (g.D.Disk.reads_of l.fn.disk);
+  reads : g.D.Disk.reads_of l.disk ≡ count_after (2 * l.number) (g.D.Disk.reads_of l.fn.disk);
   writes : g.D.Disk.writes_of l.disk ≡ g.D.Disk.writes_of l.fn.disk;
   syncs : g.D.Disk.syncs_of l.disk ≡ g.D.Disk.syncs_of l.fn.disk;
 }

@@ -1,7 +1,8 @@
 use Rattle.std.proofs.Common.{◌≡◌, ℕ, ◌+◌, List, length, subst, sym, arith, rules}
 use Rattle.std.proofs.lemmas.Result.{on_ok_weaker}
 use Rattle.disk_model.specs.Image.{Image, Holds}
-use Rattle.page_store.proofs.SlotBytes.{holds_append, two_parts}
+use Rattle.disk_model.proofs.Pieces.{holds_both}
+use Rattle.page_store.proofs.SlotBytes.{two_parts}
 use Rattle.page_store.proofs.twins.read_body.Goals as goal
 
 pub returns-clause-bytes : goal.returns-clause-bytes
@@ -17,5 +18,5 @@ returns-clause-bytes g c =
     (λ second honest.
     let later = subst (λ (s : Image). Holds s (at + 4096) c.read-2.new.out) c.read.ensures.stays.seen (second (c.read.ensures.stays.time.honest.1 honest)) in
     subst (λ (l : List ℕ). Holds seen at l) (sym (two_parts c.args.found.now.len c.min-front.result c.read.new.out _ c.read-2.new.out _ one two))
-    (holds_append seen at c.read.new.out c.read-2.new.out (c.in_ok-read.ensures.bytes honest) (subst (λ (k : ℕ). Holds seen k c.read-2.new.out) place later)))
+    (holds_both seen at c.read.new.out c.read-2.new.out (c.in_ok-read.ensures.bytes honest) (subst (λ (k : ℕ). Holds seen k c.read-2.new.out) place later)))
     c.read-2.ensures.bytes

@@ -1,17 +1,13 @@
-use Rattle.std.proofs.Common.{◌≡◌, ℕ, ◌-◌, ◌≤◌, List, length, take, drop, arith, length-drop, ◌∙◌}
+use Rattle.std.proofs.Common.{◌-◌, ◌≤◌, length, take, drop, arith, length-drop, ◌∙◌}
 use Rattle.std.proofs.KnownBytes.{Appends-trans}
 use Rattle.std.proofs.Math.Seq.{take-add}
-use Rattle.std.proofs.lemmas.Grind.{common_steps}
 use Rattle.std.specs.Io.KnownBytes.{Appends}
+use Rattle.qsr_value.proofs.Lists.{slice_to_end}
 use Rattle.qsr_io.proofs.sink.put_all.Goals as goal
-
--- the slice from a place to the end
-slice_to_end : (at : ℕ) (xs : List ℕ) → take (length xs - at) (drop at xs) ≡ drop at xs
-slice_to_end at xs = grind (arith, common_steps)
 
 pub loop-at-preserved : goal.loop-at-preserved
 loop-at-preserved g c =
-    let rest = slice_to_end c.loop-at.at c.args.bytes.now in
+    let rest = slice_to_end c.args.bytes.now c.loop-at.at in
     let bound : c.in_ok-at.field-0 ≤ length (drop c.loop-at.at c.args.bytes.now) = rw rest at c.in_ok-at.ensures.bound in
     let more : Appends (g.K.Sink.given c.loop-at.sink) (g.K.Sink.given c.write.new.self) (take c.in_ok-at.field-0 (drop c.loop-at.at c.args.bytes.now)) = rw rest at c.in_ok-at.ensures.bytes in
     record {

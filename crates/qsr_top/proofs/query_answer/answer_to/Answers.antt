@@ -1,4 +1,4 @@
-use Rattle.sql_front.specs.Reads.{tells}
+use Rattle.sql_front.specs.Reads.{parse_tells}
 use Rattle.qsr_top.proofs.ExplainLemmas.{answer_misread, answer_query, if_ok}
 use Rattle.qsr_top.proofs.query_answer.answer_to.Goals as goal
 
@@ -11,5 +11,5 @@ returns-in-Ok c =
 pub returns-in-Err : goal.returns-in-Err
 returns-in-Err c =
     if_ok c.answer_to_misread.result
-    (λ answer. answer_misread c.args.tables.now c.args.text.now (tells c.in-Err.fault) answer c.in-Err.ensures.refused c.in-Err.ensures.only c.in-Err.ensures.only_refused)
+    (λ answer. answer_misread c.args.tables.now c.args.text.now (parse_tells c.in-Err.fault) answer c.in-Err.ensures.refused c.in-Err.ensures.only c.in-Err.ensures.only_refused)
     c.answer_to_misread.ensures

@@ -1,12 +1,12 @@
 use Rattle.std.proofs.Common.{◌≡◌, rules, subst, ◌∙◌, ◌++◌, map, None}
 use Rattle.sql_bind.specs.Bound.{bound_select}
-use Rattle.sql_bind.specs.Checks.{items_of, keys_checks, query_checks, select_checks, selects_checks, tells, union_checks}
+use Rattle.sql_bind.specs.Checks.{items_of, keys_checks, query_checks, select_checks, selects_checks, bind_tells, union_checks}
 use Rattle.sql_bind.specs.Names.{scope_of}
 use Rattle.sql_bind.specs.View.{select_view}
 use Rattle.sql_bind.proofs.FromLemmas.{fault_before}
 use Rattle.sql_bind.proofs.SelectLemmas.{alike_union, fault_at, first_of_four, fourth_of_four, second_of_four, third_of_four}
 use Rattle.sql_bind.proofs.binder.bind.Goals as goal
-use Rattle.sql_words.specs.Checks.{check_at_fault, first_refusal}
+use Rattle.grammar_laws.specs.Checks.{check_at_fault, first_refusal}
 
 pub returns-in_err-first-clause-checks : goal.returns-in_err-first-clause-checks
 returns-in_err-first-clause-checks c =
@@ -16,7 +16,7 @@ returns-in_err-first-clause-checks c =
     let more = selects_checks names q.more in
     let alike = union_checks names (items_of names q.first) q.more in
     let keys = keys_checks (scope_of names q.first) (items_of names q.first) q.order_by in
-    let fact = fault_before (first_refusal (query_checks names q)) first (more ++ (alike ++ keys)) (tells c.in_err-first.field-0.0) (first_of_four first more alike keys) (search rules) in
+    let fact = fault_before (first_refusal (query_checks names q)) first (more ++ (alike ++ keys)) (bind_tells c.in_err-first.field-0.0) (first_of_four first more alike keys) (search rules) in
     search rules
 
 pub returns-in_err-others-clause-checks : goal.returns-in_err-others-clause-checks
@@ -28,7 +28,7 @@ returns-in_err-others-clause-checks c =
     let alike = union_checks names (items_of names q.first) q.more in
     let keys = keys_checks (scope_of names q.first) (items_of names q.first) q.order_by in
     let first_none : first_refusal first ≡ None = search rules in
-    let fact = fault_before (first_refusal (query_checks names q)) more (alike ++ keys) (tells c.in_err-others.field-0.0) (second_of_four first more alike keys first_none) (search rules) in
+    let fact = fault_before (first_refusal (query_checks names q)) more (alike ++ keys) (bind_tells c.in_err-others.field-0.0) (second_of_four first more alike keys first_none) (search rules) in
     search rules
 
 pub returns-in_err-check_alike-clause-checks : goal.returns-in_err-check_alike-clause-checks
@@ -45,7 +45,7 @@ returns-in_err-check_alike-clause-checks c =
     let items : c.as_slice.result.now ≡ items_of names q.first = search rules in
     let bound : map select_view c.as_slice-2.result.now ≡ map (λ u. bound_select names u.select) q.more = search rules in
     let united = alike_union names q.first c.as_slice.result.now c.as_slice-2.result.now q.more items bound in
-    let said = tells c.in_err-check_alike.field-0.0 in
+    let said = bind_tells c.in_err-check_alike.field-0.0 in
     let fault : first_refusal alike ≡ check_at_fault (first_refusal alike) said =
     subst (λ checks. first_refusal checks ≡ check_at_fault (first_refusal checks) said) united (search rules) in
     let fact = fault_before (first_refusal (query_checks names q)) alike keys said (third_of_four first more alike keys first_none more_none) fault in
@@ -69,7 +69,7 @@ returns-in_err-order_by-clause-checks c =
     let seen : c.as_slice-3.result.now ≡ scope_of names q.first = search rules in
     let listed : c.as_slice-4.result.now ≡ items_of names q.first = search rules in
     let keyed : keys_checks c.as_slice-3.result.now c.as_slice-4.result.now c.as_slice-5.result.now ≡ keys = cc in
-    let said = tells c.in_err-order_by.field-0.0 in
+    let said = bind_tells c.in_err-order_by.field-0.0 in
     let fault : first_refusal keys ≡ check_at_fault (first_refusal keys) said =
     subst (λ checks. first_refusal checks ≡ check_at_fault (first_refusal checks) said) keyed c.in_err-order_by.ensures.checks in
     let fact = fault_at (first_refusal (query_checks names q)) (first_refusal keys) said (fourth_of_four first more alike keys first_none more_none alike_none) fault in

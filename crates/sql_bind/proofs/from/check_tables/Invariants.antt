@@ -1,7 +1,7 @@
 use Rattle.std.proofs.Common.{◌≡◌, ◌∷◌, [], drop, map, take}
 use Rattle.sql_bind.specs.Checks.{tables_checks}
 use Rattle.sql_bind.specs.Names.{known, table_of}
-use Rattle.sql_words.specs.Checks.{first_refusal}
+use Rattle.grammar_laws.specs.Checks.{first_refusal}
 use Rattle.sql_bind.proofs.from.check_tables.Given as goal
 
 -- the tables before this one refuse nothing

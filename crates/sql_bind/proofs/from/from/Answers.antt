@@ -1,7 +1,7 @@
 use Rattle.std.proofs.Common.{rules, refl, [], ◌∷◌, ◌++◌}
-use Rattle.sql_bind.specs.Checks.{ons_checks, table_checks, tables_checks, tells}
+use Rattle.sql_bind.specs.Checks.{ons_checks, table_checks, tables_checks, bind_tells}
 use Rattle.sql_bind.specs.Names.{known, scoped}
-use Rattle.sql_words.specs.Checks.{first_refusal}
+use Rattle.grammar_laws.specs.Checks.{first_refusal}
 use Rattle.sql_bind.proofs.FromLemmas.{fault_before, result_behind}
 use Rattle.sql_bind.proofs.from.from.Goals as goal
 
@@ -11,7 +11,7 @@ returns-in_err-check_tables-clause-checks c =
     let s = c.args.select.now in
     let there = table_checks names [] s.table ++ tables_checks names (known s.table ∷ []) s.more in
     let ons = ons_checks names 1 (scoped names 0 s.table ∷ []) s.more in
-    let fact = fault_before (first_refusal (there ++ ons)) there ons (tells c.in_err-check_tables.field-0.0) refl (search rules) in
+    let fact = fault_before (first_refusal (there ++ ons)) there ons (bind_tells c.in_err-check_tables.field-0.0) refl (search rules) in
     search rules
 
 pub returns-clause-checks : goal.returns-clause-checks

@@ -1,9 +1,9 @@
 use Rattle.std.proofs.Common.{◌≡◌, ◌<◌, ◌+◌, rules, sym, ap, ◌∙◌, [], ◌∷◌, ◌++◌, map, drop, length}
 use Rattle.sql_bind.specs.Bound.{bound_table, bound_tables}
-use Rattle.sql_bind.specs.Checks.{on_checks, ons_checks, tells}
+use Rattle.sql_bind.specs.Checks.{on_checks, ons_checks, bind_tells}
 use Rattle.sql_bind.specs.Names.{scope_behind, scope_from, scoped, table_of}
 use Rattle.sql_bind.specs.View.{table_view}
-use Rattle.sql_words.specs.Checks.{first_refusal}
+use Rattle.grammar_laws.specs.Checks.{first_refusal}
 use Rattle.sql_bind.proofs.CheckLemmas.{passed}
 use Rattle.sql_bind.proofs.FromLemmas.{bound_pushed, bound_turn, fault_before, ons_turn, scope_turn}
 use Rattle.sql_bind.proofs.from.tables.Goals as goal
@@ -18,7 +18,7 @@ returns-in_err-next_table-clause-checks c =
     let s = scoped names (place + 1) (table_of m) in
     let turn = ons_turn names (place + 1) scope more place m (search rules) c.index-more-place.is in
     let fact = fault_before (first_refusal (ons_checks names 1 (scoped names 0 c.args.first.now ∷ []) more)) (on_checks scope s m)
-    (ons_checks names (place + 1 + 1) (scope_behind m scope s) (drop (place + 1) more)) (tells c.in_err-next_table.field-0.0)
+    (ons_checks names (place + 1 + 1) (scope_behind m scope s) (drop (place + 1) more)) (bind_tells c.in_err-next_table.field-0.0)
     (c.loop-place.invariant.checked ∙ ap first_refusal turn) (search rules) in
     search rules
 

@@ -3,7 +3,7 @@ use Rattle.sql_bind.specs.Bound.{bound_tables, first_table}
 use Rattle.sql_bind.specs.Checks.{ons_checks}
 use Rattle.sql_bind.specs.Names.{scope_from, scoped}
 use Rattle.sql_bind.specs.View.{table_view}
-use Rattle.sql_words.specs.Checks.{first_refusal}
+use Rattle.grammar_laws.specs.Checks.{first_refusal}
 use Rattle.sql_bind.proofs.from.tables.Given as goal
 
 -- what is left, over the scope so far, gives the rest of all

@@ -1,6 +1,6 @@
 use Rattle.std.proofs.Common.{◌≡◌, drop}
 use Rattle.sql_bind.specs.Checks.{columns_checks}
-use Rattle.sql_words.specs.Checks.{first_refusal}
+use Rattle.grammar_laws.specs.Checks.{first_refusal}
 use Rattle.sql_bind.proofs.items.check_columns.Given as goal
 
 -- the first refusal is that of the columns that are left

@@ -1,7 +1,7 @@
 use Rattle.std.proofs.Common.{◌≡◌, ◌++◌, drop, map}
 use Rattle.sql_bind.specs.Bound.{bound_key}
 use Rattle.sql_bind.specs.Checks.{keys_checks}
-use Rattle.sql_words.specs.Checks.{first_refusal}
+use Rattle.grammar_laws.specs.Checks.{first_refusal}
 use Rattle.sql_bind.proofs.keys.keys.Given as goal
 
 -- The keys so far refuse nothing, so that the first refusal is that of those that are left, and they are followed by those.

@@ -1,6 +1,6 @@
 use Rattle.std.proofs.Common.{rules, ap, ◌∙◌, length}
 use Rattle.std.proofs.lemmas.Slice.Zip.{zip_end}
-use Rattle.sql_words.specs.Checks.{first_refusal}
+use Rattle.grammar_laws.specs.Checks.{first_refusal}
 use Rattle.sql_bind.proofs.SelectLemmas.{alike_end}
 use Rattle.sql_bind.proofs.selects.check_alike.Goals as goal
 

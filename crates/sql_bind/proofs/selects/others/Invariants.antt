@@ -2,7 +2,7 @@ use Rattle.std.proofs.Common.{◌≡◌, drop, map, take}
 use Rattle.sql_bind.specs.Bound.{bound_select}
 use Rattle.sql_bind.specs.Checks.{selects_checks}
 use Rattle.sql_bind.specs.View.{select_view}
-use Rattle.sql_words.specs.Checks.{first_refusal}
+use Rattle.grammar_laws.specs.Checks.{first_refusal}
 use Rattle.sql_bind.proofs.selects.others.Given as goal
 
 -- the selects so far refuse nothing

@@ -1,7 +1,7 @@
 use Rattle.std.proofs.Common.{arith}
 use Rattle.table_file.specs.CatalogueBytes.{catalogue_bytes}
 use Rattle.table_file.proofs.Counts.{catalogue_most}
-use Rattle.table_file.proofs.Putting.{then_puts}
+use Rattle.part_codec.proofs.Putting.{then_puts}
 use Rattle.table_file.proofs.body.put_catalogue.Goals as goal
 
 pub put_tables-at-requires-clause-room : goal.put_tables-at-requires-clause-room

@@ -3,7 +3,7 @@ use Rattle.std.proofs.Common.{◌+◌, arith, drop, get_or}
 use Rattle.table_file.specs.CatalogueBytes.{index_bytes}
 use Rattle.table_file.specs.declared.entries.IndexEntry.{IndexEntry}
 use Rattle.table_file.proofs.Counts.{index_count}
-use Rattle.table_file.proofs.Putting.{next_at, no_part, puts_all, puts_more, puts_room, starts_putting}
+use Rattle.part_codec.proofs.Putting.{next_at, no_part, puts_all, puts_more, puts_room, starts_putting}
 use Rattle.table_file.proofs.entry_bytes.put_all_indexes.Goals as goal
 
 -- what a place behind the last index would give

@@ -1,7 +1,7 @@
 use Rattle.std.proofs.Common.{drop}
 use Rattle.std.specs.List.{flat_map}
 use Rattle.table_file.specs.CatalogueBytes.{table_bytes}
-use Rattle.table_file.proofs.Putting.{HasPut}
+use Rattle.part_codec.proofs.Putting.{HasPut}
 use Rattle.table_file.proofs.entry_bytes.put_all_tables.Given as goal
 
 abbrev pub invariant-loop-table : goal.invariant-loop-table

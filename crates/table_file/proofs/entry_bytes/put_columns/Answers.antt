@@ -1,6 +1,6 @@
 use Rattle.std.specs.List.{flat_map}
 use Rattle.table_file.specs.CatalogueBytes.{IsColumn, column_bytes}
-use Rattle.table_file.proofs.Putting.{each_at, next_part, no_part, puts_all, puts_more, puts_room, starts_putting}
+use Rattle.part_codec.proofs.Putting.{each_at, next_part, no_part, puts_all, puts_more, puts_room, starts_putting}
 use Rattle.table_file.proofs.entry_bytes.put_columns.Goals as goal
 
 pub loop-column-init : goal.loop-column-init

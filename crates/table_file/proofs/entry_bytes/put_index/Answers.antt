@@ -1,5 +1,5 @@
 use Rattle.table_file.specs.CatalogueBytes.{index_bytes}
-use Rattle.table_file.proofs.Putting.{then_puts}
+use Rattle.part_codec.proofs.Putting.{then_puts}
 use Rattle.table_file.proofs.entry_bytes.put_index.Goals as goal
 
 pub returns : goal.returns

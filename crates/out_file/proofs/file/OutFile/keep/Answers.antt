@@ -14,10 +14,10 @@ returns-clause-held g c = λ bytes left.
     let past = c.if-end-lt-PAGE_BYTES.false in
     let count : c.args.end - front ≡ (4096 - front) + (c.args.end - 4096) = omega (arith, past) in
     let place : front + (4096 - front) ≡ 4096 = omega arith in
-    ap (λ (n : ℕ). drop n bytes) c.turn.ensures.written
+    ap (λ (n : ℕ). drop n bytes) c.next_page.ensures.written
     ∙ left_behind out.written (4096 - front) (c.args.end - 4096) bytes rest (left ∙ ap (λ (n : ℕ). take n rest) count)
     ∙ ap (take (c.args.end - 4096)) (drop-drop (4096 - front) front out.page ∙ ap (λ (n : ℕ). drop n out.page) place)
-    ∙ sym c.turn.ensures.bytes
+    ∙ sym c.next_page.ensures.bytes
 
 pub returns-clause-stands : goal.returns-clause-stands
 returns-clause-stands g c = λ bytes long left before honest_after.
@@ -30,6 +30,6 @@ returns-clause-stands g c = λ bytes long left before honest_after.
     let count : c.args.end - front ≡ (4096 - front) + (c.args.end - 4096) = omega (arith, past) in
     let part : take (4096 - front) (drop out.written bytes) ≡ take (4096 - front) rest =
     front_left out.written (4096 - front) (c.args.end - 4096) bytes rest (left ∙ ap (λ (n : ℕ). take n rest) count) (omega (arith, page, length-drop front out.page)) in
-    subst (λ (n : ℕ). OutHolds out.job (take n bytes) (store_view c.write_up_to.new.store).seen) (sym c.turn.ensures.written)
+    subst (λ (n : ℕ). OutHolds out.job (take n bytes) (store_view c.write_up_to.new.store).seen) (sym c.next_page.ensures.written)
     (next_stands out.job out.written (4096 - front) bytes (store_view c.args.store.now).seen (store_view c.write_up_to.new.store).seen long (c.write_up_to.ensures.grows.seen honest) (before honest)
     (subst (λ (l : List ℕ). AreaHolds (job_part out.job 4) out.written l (store_view c.write_up_to.new.store).seen) (sym part) (c.in_ok-write_up_to.ensures.stands honest)))

@@ -21,8 +21,8 @@ loop-done-init g c = record {
   bytes = λ m seen honest has. (has, no_bytes (out_area c.args.self.now.job m) c.args.at);
 }
 
-pub returns-in_err-turn_to-clause-read : goal.returns-in_err-turn_to-clause-read
-returns-in_err-turn_to-clause-read g c = read_twice c.loop-done.invariant.read c.turn_to.ensures.read
+pub returns-in_err-go_to-clause-read : goal.returns-in_err-go_to-clause-read
+returns-in_err-go_to-clause-read g c = read_twice c.loop-done.invariant.read c.go_to.ensures.read
 
 pub loop-done-preserved : goal.loop-done-preserved
 loop-done-preserved g c =
@@ -30,24 +30,24 @@ loop-done-preserved g c =
     let done = c.loop-done.done in
     let count = c.copy_to-done.result in
     let place = c.args.at + done in
-    let window = c.turn_to.new.self in
+    let window = c.go_to.new.self in
     let left = left_long out done in
     let more = c.loop-done-test.true in
     let counted = c.copy_to-done.ensures.count in
-    let next = c.turn_to.ensures.next in
+    let next = c.go_to.ensures.next in
     let run = c.loop-done.invariant.read in
-    let job = c.turn_to.ensures.job in
+    let job = c.go_to.ensures.job in
     record {
       within = search rules;
       job = job ∙ c.loop-done.invariant.job;
       behind = omega (arith, left, more, counted, next);
-      read = read_twice run c.turn_to.ensures.read;
-      faults = c.in_ok-turn_to.ensures.faults ∙ c.loop-done.invariant.faults;
-      reads = omega (arith, c.turn_to.ensures.reads, c.loop-done.invariant.reads);
+      read = read_twice run c.go_to.ensures.read;
+      faults = c.in_ok-go_to.ensures.faults ∙ c.loop-done.invariant.faults;
+      reads = omega (arith, c.go_to.ensures.reads, c.loop-done.invariant.reads);
       bytes = λ m seen honest has.
           let before = c.loop-done.invariant.bytes m seen honest has in
           let area = out_area c.args.self.now.job m in
-          let holds = c.in_ok-turn_to.ensures.bytes m (run.stays.seen ∙ seen) (run.stays.time.honest.1 honest) before.0 in
+          let holds = c.in_ok-go_to.ensures.bytes m (run.stays.seen ∙ seen) (run.stays.time.honest.1 honest) before.0 in
           let long : length window.bytes ≡ 4096 = c.copy_to-done.ensures.page in
           let holds_here : (i : ℕ) → i < length window.bytes → area (4096 * (place / 4096) + i) ≡ slice_index window.bytes i =
           subst (λ (j : ℕ). AreaHolds (job_part j 4) (4096 * (place / 4096)) window.bytes m) c.loop-done.invariant.job holds in

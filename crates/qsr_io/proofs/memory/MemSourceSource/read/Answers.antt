@@ -1,11 +1,8 @@
 use Rattle.std.proofs.Common.{◌≡◌, ℕ, ◌+◌, ◌-◌, ◌<◌, List, [], ◌++◌, length, take, drop, min, arith, sym, ap, ◌∙◌}
 use Rattle.std.proofs.lemmas.Grind.{common_steps}
 use Rattle.std.proofs.lemmas.List.{take-append-drop}
+use Rattle.qsr_value.proofs.Lists.{slice_to_end}
 use Rattle.qsr_io.proofs.memory.MemSourceSource.read.Goals as goal
-
--- the slice from a place to the end
-slice_to_end : (at : ℕ) (xs : List ℕ) → take (length xs - at) (drop at xs) ≡ drop at xs
-slice_to_end at xs = grind (arith, common_steps)
 
 drop_more : (at n : ℕ) (xs : List ℕ) → drop n (drop at xs) ≡ drop (at + n) xs
 drop_more at n xs = grind (arith, common_steps)
@@ -13,7 +10,7 @@ drop_more at n xs = grind (arith, common_steps)
 -- what is left begins with what was moved
 front_and_rest : (at n : ℕ) (xs out : List ℕ) → take n out ≡ take n (take (length xs - at) (drop at xs)) → drop at xs ≡ take n out ++ drop (at + n) xs
 front_and_rest at n xs out same =
-    rw same (rw (slice_to_end at xs) (sym (take-append-drop n (drop at xs)) ∙ ap (λ rest. take n (drop at xs) ++ rest) (drop_more at n xs)))
+    rw same (rw (slice_to_end xs at) (sym (take-append-drop n (drop at xs)) ∙ ap (λ rest. take n (drop at xs) ++ rest) (drop_more at n xs)))
 
 -- where nothing was moved nothing is left
 none_left : (at n : ℕ) (xs old new : List ℕ) → length new ≡ length old → n ≡ min (length (take (length xs - at) (drop at xs))) (length old) → n ≡ 0 → 0 < length new → drop (at + n) xs ≡ []

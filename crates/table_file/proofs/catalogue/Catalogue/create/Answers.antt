@@ -1,4 +1,4 @@
-use Rattle.std.proofs.Common.{◌≡◌, ◌<◌, length, None, sym, subst, arith, rules}
+use Rattle.std.proofs.Common.{◌≡◌, ◌<◌, List, length, None, sym, ap, subst, arith, rules}
 use Rattle.std.proofs.lemmas.List.{length-map}
 use Rattle.page_store.specs.Store.{store_view}
 use Rattle.page_store.specs.declared.pages.Sizes.{Sizes}
@@ -7,7 +7,9 @@ use Rattle.table_file.specs.Refusals.{create_refusal, table_names}
 use Rattle.table_file.specs.Tables.{catalogue_of, with_table}
 use Rattle.table_file.proofs.Committing.{created_each, created_run, only_commit}
 use Rattle.table_file.proofs.Growth.{catalogue_with, created_is, created_is_form, new_table}
+use Rattle.table_file.proofs.Lists.{popped}
 use Rattle.table_file.proofs.Refusing.{accepted}
+use Rattle.table_file.specs.declared.entries.TableEntry.{TableEntry}
 use Rattle.table_file.proofs.catalogue.Catalogue.create.Goals as goal
 
 pub commit_body-requires : goal.commit_body-requires
@@ -71,3 +73,16 @@ returns-in-Err-clause-any_moment g c = λ ready s told each.
 
 pub returns-in-Err-clause-others : goal.returns-in-Err-clause-others
 returns-in-Err-clause-others g c = only_commit c.commit_body.ensures.within
+
+pub returns-in-Err-clause-kept : goal.returns-in-Err-clause-kept
+returns-in-Err-clause-kept g c =
+    ap (λ (tables : List TableEntry). catalogue_with tables c.args.self.now.indexes)
+    (popped c.args.self.now.tables c.push.new.self c.pop.new.self _ c.pop.result c.in-Ok.ensures.ok c.pop.ensures)
+
+pub returns-in-Err-clause-form : goal.returns-in-Err-clause-form
+returns-in-Err-clause-form g c =
+    let old = c.args.self.now in
+    let left : catalogue_with c.pop.new.self old.indexes ≡ old =
+    ap (λ (tables : List TableEntry). catalogue_with tables old.indexes)
+    (popped old.tables c.push.new.self c.pop.new.self _ c.pop.result c.in-Ok.ensures.ok c.pop.ensures) in
+    rw (left, c.commit_body.ensures.sizes) c.requires.form

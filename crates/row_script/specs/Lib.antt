@@ -1,0 +1,9 @@
+pub mod Answers
+pub mod Ends
+pub mod Grammar
+pub mod Machine
+pub mod Progress
+pub mod Replies
+pub mod Rows
+pub mod Run
+pub mod Script

@@ -1,5 +1,0 @@
-use Rattle.sql_words.proofs.Checking.{first_of_both}
-use Rattle.sql_words.proofs.laws.first_of_both.Goals as goal
-
-pub returns : goal.returns
-returns g c = first_of_both

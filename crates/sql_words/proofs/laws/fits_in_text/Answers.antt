@@ -1,5 +1,0 @@
-use Rattle.sql_words.proofs.Reading.{literals_fit}
-use Rattle.sql_words.proofs.laws.fits_in_text.Goals as goal
-
-pub returns : goal.returns
-returns g c = λ m. literals_fit m.laws

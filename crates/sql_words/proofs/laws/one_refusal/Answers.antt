@@ -1,5 +1,0 @@
-use Rattle.sql_words.proofs.Reading.{one_refusal}
-use Rattle.sql_words.proofs.laws.one_refusal.Goals as goal
-
-pub returns : goal.returns
-returns g c = λ m. one_refusal m.laws

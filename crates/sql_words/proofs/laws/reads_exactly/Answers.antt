@@ -1,5 +1,0 @@
-use Rattle.sql_words.proofs.Reading.{read_text, text_read}
-use Rattle.sql_words.proofs.laws.reads_exactly.Goals as goal
-
-pub returns : goal.returns
-returns g c = λ m tree ts. (read_text m.laws tree ts, text_read m.laws tree ts)

@@ -1,5 +1,0 @@
-use Rattle.sql_words.proofs.Reading.{refused_stops, refuses}
-use Rattle.sql_words.proofs.laws.stops_exactly.Goals as goal
-
-pub returns : goal.returns
-returns g c = λ m told ts. (refuses m.laws told ts, refused_stops m.laws told ts)
